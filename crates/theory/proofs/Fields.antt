@@ -1,0 +1,112 @@
+-- What holds of fields, by their nets.
+use mathlib.Core.Path.{_≡_, refl, ap}
+use mathlib.Core.Bool.{Bool, true, false}
+use Prim.Native.Nat.{ℕ, suc, _+_, _*_, _-_, _/_, _%_, _≤_, _<_}
+use native.Mathlib.Omega.{arith}
+use lib.Dec.{eqb}
+use Rattle.std.proofs.shelf.Tests.{eq-eqb, ne-eqb}
+use Rattle.theory.specs.Sums.{sum}
+use Rattle.theory.specs.Pictures.{Picture, Within, meet, join, Least, Undermost}
+use Rattle.theory.specs.Nets.{Arc, Net, Inside, gap, net-total, arc-costs}
+use Rattle.theory.specs.Fields.{Side, Field, Sound, Of, apart, side-cost, side-costs, total, Cheapest, Lowest, direction, net-of}
+use Rattle.theory.specs.Promises.{Same-total, Meet-join, Steps-up, Steeper, Steeper-lowest, Existence}
+use Rattle.theory.proofs.Sums.{sum-same, sum-pairs}
+use Rattle.theory.proofs.Lattice.{Crosses, Closed, within-closed, meet-least, join-least, under-all}
+use Rattle.theory.proofs.Minimise.{Reads, lowest-exists}
+use Rattle.theory.proofs.Nets.{nets-cross, net-reads}
+
+pub arc-there : (f : Field) (k : ℕ) → net-of f .arc (2 * k) ≡ direction true (f .side k)
+arc-there f k =
+    let half : (2 * k) / 2 ≡ k = omega arith in
+    let even : eqb ((2 * k) % 2) 0 ≡ true = eq-eqb _ _ (omega arith) in
+    rw (half, even)
+
+pub arc-back : (f : Field) (k : ℕ) → net-of f .arc (2 * k + 1) ≡ direction false (f .side k)
+arc-back f k =
+    let half : (2 * k + 1) / 2 ≡ k = omega arith in
+    let odd : eqb ((2 * k + 1) % 2) 0 ≡ false = ne-eqb _ _ (omega arith) in
+    rw (half, odd)
+
+two-ways : (p a b : ℕ) → p * ((a - b) - 0) + p * ((b - a) - 0) ≡ p * ((a - b) + (b - a))
+two-ways p a b =
+    let there : (a - b) - 0 ≡ a - b = omega arith in
+    let back : (b - a) - 0 ≡ b - a = omega arith in
+    rw (there, back) (omega arith)
+
+pair-cost :
+    (f : Field) (u : Picture) (k : ℕ) →
+    net-of f .arc (2 * k) .price * gap (net-of f .arc (2 * k)) u + net-of f .arc (2 * k + 1) .price * gap (net-of f .arc (2 * k + 1)) u ≡ side-cost (f .side k) u
+pair-cost f u k = rw (arc-there f k, arc-back f k) (two-ways (f .side k .price) (u (f .side k .first)) (u (f .side k .second)))
+
+pub sides-by-arcs : (f : Field) (u : Picture) → side-costs f u ≡ arc-costs (net-of f) u
+sides-by-arcs f u =
+    let arcs : ℕ → ℕ = λ e. net-of f .arc e .price * gap (net-of f .arc e) u in
+    omega
+      (arith,
+       sum-pairs (f .sides) arcs,
+       sum-same (f .sides) (λ k. arcs (2 * k) + arcs (2 * k + 1)) (λ k. side-cost (f .side k) u) (λ k l. pair-cost f u k))
+
+pub total-net : Same-total
+total-net f u = omega (arith, sides-by-arcs f u)
+
+direction-inside : (b : Bool) (s : Side) (n : ℕ) → s .first < n → s .second < n → (direction b s .from < n) × (direction b s .to < n)
+direction-inside true s n p q = (p, q)
+direction-inside false s n p q = (q, p)
+
+net-inside : (f : Field) → Sound f → Inside (net-of f)
+net-inside f sound e l =
+    let both = sound .inside (e / 2) (omega arith) in
+    direction-inside (eqb (e % 2) 0) (f .side (e / 2)) (f .places) (both .0) (both .1)
+
+field-reads : (f : Field) → Sound f → Reads (f .places) (total f)
+field-reads f sound u v h =
+    omega (arith, net-reads (net-of f) (net-inside f sound) u v h, total-net f u, total-net f v)
+
+-- what the second of two fields that differ in costs only costs, over the first one's places and arcs
+total-over : (f g : Field) → Steps-up f g → (u : Picture) → total g u ≡ sum (f .places) (λ i. g .cost i (u i)) + arc-costs (net-of f) u
+total-over f g s u =
+    omega
+      (arith,
+       ap (λ n. sum n (λ i. g .cost i (u i))) (s .places),
+       ap (λ n. sum n (λ k. side-cost (g .side k) u)) (s .sides),
+       sum-same (f .sides) (λ k. side-cost (g .side k) u) (λ k. side-cost (f .side k) u) (λ k l. ap (λ x. side-cost x u) (s .side k l)),
+       sides-by-arcs f u)
+
+fields-cross : (f g : Field) → Steps-up f g → Crosses (Of f) (total f) (total g)
+fields-cross f g s u v p q =
+    omega
+      (arith,
+       nets-cross (net-of f) (g .cost) (s .step) u v p q,
+       sides-by-arcs f (meet u v),
+       sides-by-arcs f u,
+       total-over f g s (join u v),
+       total-over f g s v)
+
+same-costs : (f : Field) → Steps-up f f
+same-costs f = record { places = refl; top = refl; sides = refl; side = λ k l. refl; step = λ i a l m. omega arith }
+
+pub meet-join : Meet-join
+meet-join f u v p q =
+    let closed : Closed (Of f) = within-closed (f .places) (f .top) in
+    let crosses : Crosses (Of f) (total f) (total f) = fields-cross f f (same-costs f) in
+    (meet-least (Of f) (total f) (total f) closed crosses u v p q, join-least (Of f) (total f) (total f) closed crosses u v p q)
+
+-- the two fields have the same pictures
+cheapest-over : (f g : Field) → Steps-up f g → (v : Picture) → Cheapest g v → Least (Of f) (total g) v
+cheapest-over f g s v q =
+    record {
+      of = λ i l. omega (arith, s .top, q .of i (omega (arith, s .places)));
+      least = λ w r. q .least w (λ i l. omega (arith, s .top, r i (omega (arith, s .places))))
+    }
+
+pub steeper : Steeper
+steeper f g u v s p q =
+    under-all (f .places) (Of f) (total f) (total g) (within-closed (f .places) (f .top)) (fields-cross f g s) u v p
+    (cheapest-over f g s v q)
+
+pub steeper-lowest : Steeper-lowest
+steeper-lowest f g u v s p q = steeper f g u v s p (q .cheapest)
+
+pub existence : Existence
+existence f sound =
+    lowest-exists (f .places) (f .top) (total f) (field-reads f sound) (fields-cross f f (same-costs f))

@@ -1,0 +1,5 @@
+pub mod Sums
+pub mod Lattice
+pub mod Minimise
+pub mod Nets
+pub mod Fields

@@ -1,0 +1,5 @@
+use Rattle.theory.proofs.Fields.{meet-join}
+use Rattle.theory.proofs.meet_join_holds.Needs as need
+
+pub returns : need.returns
+returns c = meet-join

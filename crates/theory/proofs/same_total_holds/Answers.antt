@@ -1,0 +1,5 @@
+use Rattle.theory.proofs.Fields.{total-net}
+use Rattle.theory.proofs.same_total_holds.Needs as need
+
+pub returns : need.returns
+returns c = total-net

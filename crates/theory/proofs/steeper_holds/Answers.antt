@@ -1,0 +1,5 @@
+use Rattle.theory.proofs.Fields.{steeper, steeper-lowest}
+use Rattle.theory.proofs.steeper_holds.Needs as need
+
+pub returns : need.returns
+returns c = record { any = steeper; lowest = steeper-lowest }

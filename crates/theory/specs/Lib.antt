@@ -1,0 +1,5 @@
+pub mod Sums
+pub mod Pictures
+pub mod Nets
+pub mod Fields
+pub mod Promises
