@@ -9,7 +9,7 @@ use Rattle.theory.specs.Sums.{sum}
 use Rattle.theory.specs.Pictures.{Picture, Within, meet, join, Least, Undermost}
 use Rattle.theory.specs.Nets.{Arc, Net, Inside, gap, net-total, arc-costs}
 use Rattle.theory.specs.Fields.{Side, Field, Sound, Of, apart, side-cost, side-costs, total, Cheapest, Lowest, direction, net-of}
-use Rattle.theory.specs.Promises.{Same-total, Meet-join, Steps-up, Steeper, Steeper-lowest, Existence}
+use Rattle.theory.specs.Promises.{Both-cheapest, Steps-up, Under-cheapest, Under-lowest}
 use Rattle.theory.proofs.Sums.{sum-same, sum-pairs}
 use Rattle.theory.proofs.Lattice.{Crosses, Closed, within-closed, meet-least, join-least, under-all}
 use Rattle.theory.proofs.Minimise.{Reads, lowest-exists}
@@ -41,12 +41,13 @@ pair-cost f u k = rw (arc-there f k, arc-back f k) (two-ways (f .side k .price) 
 pub sides-by-arcs : (f : Field) (u : Picture) → side-costs f u ≡ arc-costs (net-of f) u
 sides-by-arcs f u =
     let arcs : ℕ → ℕ = λ e. net-of f .arc e .price * gap (net-of f .arc e) u in
-    omega
-      (arith,
-       sum-pairs (f .sides) arcs,
-       sum-same (f .sides) (λ k. arcs (2 * k) + arcs (2 * k + 1)) (λ k. side-cost (f .side k) u) (λ k l. pair-cost f u k))
+    omega (
+      arith,
+      sum-pairs (f .sides) arcs,
+      sum-same (f .sides) (λ k. arcs (2 * k) + arcs (2 * k + 1)) (λ k. side-cost (f .side k) u) (λ k l. pair-cost f u k),
+    )
 
-pub total-net : Same-total
+pub total-net : (f : Field) (u : Picture) → total f u ≡ net-total (net-of f) u
 total-net f u = omega (arith, sides-by-arcs f u)
 
 direction-inside : (b : Bool) (s : Side) (n : ℕ) → s .first < n → s .second < n → (direction b s .from < n) × (direction b s .to < n)
@@ -65,27 +66,29 @@ field-reads f sound u v h =
 -- what the second of two fields that differ in costs only costs, over the first one's places and arcs
 total-over : (f g : Field) → Steps-up f g → (u : Picture) → total g u ≡ sum (f .places) (λ i. g .cost i (u i)) + arc-costs (net-of f) u
 total-over f g s u =
-    omega
-      (arith,
-       ap (λ n. sum n (λ i. g .cost i (u i))) (s .places),
-       ap (λ n. sum n (λ k. side-cost (g .side k) u)) (s .sides),
-       sum-same (f .sides) (λ k. side-cost (g .side k) u) (λ k. side-cost (f .side k) u) (λ k l. ap (λ x. side-cost x u) (s .side k l)),
-       sides-by-arcs f u)
+    omega (
+      arith,
+      ap (λ n. sum n (λ i. g .cost i (u i))) (s .places),
+      ap (λ n. sum n (λ k. side-cost (g .side k) u)) (s .sides),
+      sum-same (f .sides) (λ k. side-cost (g .side k) u) (λ k. side-cost (f .side k) u) (λ k l. ap (λ x. side-cost x u) (s .side k l)),
+      sides-by-arcs f u,
+    )
 
 fields-cross : (f g : Field) → Steps-up f g → Crosses (Of f) (total f) (total g)
 fields-cross f g s u v p q =
-    omega
-      (arith,
-       nets-cross (net-of f) (g .cost) (s .step) u v p q,
-       sides-by-arcs f (meet u v),
-       sides-by-arcs f u,
-       total-over f g s (join u v),
-       total-over f g s v)
+    omega (
+      arith,
+      nets-cross (net-of f) (g .cost) (s .step) u v p q,
+      sides-by-arcs f (meet u v),
+      sides-by-arcs f u,
+      total-over f g s (join u v),
+      total-over f g s v,
+    )
 
 same-costs : (f : Field) → Steps-up f f
 same-costs f = record { places = refl; top = refl; sides = refl; side = λ k l. refl; step = λ i a l m. omega arith }
 
-pub meet-join : Meet-join
+pub meet-join : (f : Field) (u v : Picture) → Cheapest f u → Cheapest f v → Both-cheapest f u v
 meet-join f u v p q =
     let closed : Closed (Of f) = within-closed (f .places) (f .top) in
     let crosses : Crosses (Of f) (total f) (total f) = fields-cross f f (same-costs f) in
@@ -96,17 +99,17 @@ cheapest-over : (f g : Field) → Steps-up f g → (v : Picture) → Cheapest g 
 cheapest-over f g s v q =
     record {
       of = λ i l. omega (arith, s .top, q .of i (omega (arith, s .places)));
-      least = λ w r. q .least w (λ i l. omega (arith, s .top, r i (omega (arith, s .places))))
+      least = λ w r. q .least w (λ i l. omega (arith, s .top, r i (omega (arith, s .places))));
     }
 
-pub steeper : Steeper
-steeper f g u v s p q =
+pub steeper : (f g : Field) → Steps-up f g → Under-cheapest f g
+steeper f g s u v p q =
     under-all (f .places) (Of f) (total f) (total g) (within-closed (f .places) (f .top)) (fields-cross f g s) u v p
     (cheapest-over f g s v q)
 
-pub steeper-lowest : Steeper-lowest
-steeper-lowest f g u v s p q = steeper f g u v s p (q .cheapest)
+pub steeper-lowest : (f g : Field) → Steps-up f g → Under-lowest f g
+steeper-lowest f g s u v p q = steeper f g s u v p (q .cheapest)
 
-pub existence : Existence
+pub existence : (f : Field) → Sound f → (u : Picture) × Lowest f u
 existence f sound =
     lowest-exists (f .places) (f .top) (total f) (field-reads f sound) (fields-cross f f (same-costs f))

@@ -17,7 +17,7 @@ pub within-closed : (n top : ℕ) → Closed (Within n top)
 within-closed n top =
     record {
       lower = λ u v p q i l. omega (arith, p i l);
-      higher = λ u v p q i l. omega (arith, p i l, q i l)
+      higher = λ u v p q i l. omega (arith, p i l, q i l);
     }
 
 module _ (P : Picture → Type 0) (K L : Picture → ℕ) (closed : Closed P) (crosses : Crosses P K L) (u v : Picture) (p : Least P K u) (q : Least P L v) where
@@ -25,14 +25,14 @@ module _ (P : Picture → Type 0) (K L : Picture → ℕ) (closed : Closed P) (c
   meet-least =
       record {
         of = closed .lower u v (p .of) (q .of);
-        least = λ w r. omega (arith, crosses u v (p .of) (q .of), q .least (join u v) (closed .higher u v (p .of) (q .of)), p .least w r)
+        least = λ w r. omega (arith, crosses u v (p .of) (q .of), q .least (join u v) (closed .higher u v (p .of) (q .of)), p .least w r);
       }
 
   pub join-least : Least P L (join u v)
   join-least =
       record {
         of = closed .higher u v (p .of) (q .of);
-        least = λ w r. omega (arith, crosses u v (p .of) (q .of), p .least (meet u v) (closed .lower u v (p .of) (q .of)), q .least w r)
+        least = λ w r. omega (arith, crosses u v (p .of) (q .of), p .least (meet u v) (closed .lower u v (p .of) (q .of)), q .least w r);
       }
 
 -- the lowest of the one is nowhere higher than any cheapest one of the other

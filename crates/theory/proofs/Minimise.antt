@@ -60,26 +60,29 @@ best-step : (n top : ℕ) (K : Picture → ℕ) → Reads (suc n) K → ((b : �
 best-step n top K reads found =
     let value : At-least top (λ b. K (first b (found b .0))) = least-value top (λ b. K (first b (found b .0))) in
     let b : ℕ = value .0 in
-    let u : Picture = found b .0 in
-    (first b u,
+    let u : Picture = found b .0 in (
+      first b u,
       record {
         of = first-within n top b u (value .1) (found b .1 .of);
         least =
-          λ v w.
-            omega
-              (arith,
-               reads v (first (v 0) (rest v)) (first-rest v (suc n)),
-               found (v 0) .1 .least (rest v) (λ i l. w (suc i) (omega arith)),
-               value .2 (v 0) (w 0 (omega arith)))
-      })
+            λ v w.
+            omega (
+              arith,
+              reads v (first (v 0) (rest v)) (first-rest v (suc n)),
+              found (v 0) .1 .least (rest v) (λ i l. w (suc i) (omega arith)),
+              value .2 (v 0) (w 0 (omega arith)),
+            );
+      },
+    )
 
 pub best : (n top : ℕ) (K : Picture → ℕ) → Reads n K → Minimal n top K
-best zero top K reads =
-    (λ i. 0,
-      record {
-        of = λ i l. omega arith;
-        least = λ v w. omega (arith, reads (λ i. 0) v (λ i l. omega arith))
-      })
+best zero top K reads = (
+  λ i. 0,
+  record {
+    of = λ i l. omega arith;
+    least = λ v w. omega (arith, reads (λ i. 0) v (λ i l. omega arith));
+  },
+)
 best (suc n) top K reads =
     best-step n top K reads
     (λ b. best n top (λ u. K (first b u)) (λ u v h. reads (first b u) (first b v) (first-agree n b u v h)))
@@ -113,13 +116,13 @@ lowest-exists n top K reads crosses = (u, record { cheapest = cheapest; under = 
     cheapest =
         record {
           of = found .1 .of;
-          least = λ v w. rank-first (K u) (K v) (sum n u) (sum n v) (n * top) (found .1 .least v w) (sum-bound n top v w)
+          least = λ v w. rank-first (K u) (K v) (sum n u) (sum n v) (n * top) (found .1 .least v w) (sum-bound n top v w);
         }
 
     under : (v : Picture) → Least (Within n top) K v → (i : ℕ) → i < n → u i ≤ v i
     under v p i l =
         let m : Least (Within n top) K (meet u v) = meet-least (Within n top) K K (within-closed n top) crosses u v cheapest p in
         let s : sum n u ≤ sum n (meet u v) =
-            rank-then (K u) (K (meet u v)) (sum n u) (sum n (meet u v)) (n * top) (found .1 .least (meet u v) (m .of))
-            (m .least u (cheapest .of)) (cheapest .least (meet u v) (m .of)) in
+        rank-then (K u) (K (meet u v)) (sum n u) (sum n (meet u v)) (n * top) (found .1 .least (meet u v) (m .of))
+        (m .least u (cheapest .of)) (cheapest .least (meet u v) (m .of)) in
         omega (arith, sum-tight n (meet u v) u (λ j k. omega arith) s i l)

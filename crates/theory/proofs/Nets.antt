@@ -46,21 +46,23 @@ pub nets-cross :
     (net : Net) (d : ℕ → ℕ → ℕ) → Gentler (net .places) (net .top) (net .cost) d →
     Crosses (Within (net .places) (net .top)) (net-total net) (λ u. sum (net .places) (λ i. d i (u i)) + arc-costs net u)
 nets-cross net d gentler u v p q =
-    omega
-      (arith,
-       sum-cross (net .places) (λ i. net .cost i (meet u v i)) (λ i. d i (join u v i)) (λ i. net .cost i (u i)) (λ i. d i (v i))
-         (λ i l. value-cross-by (net .cost i) (d i) (net .top) (u i) (v i) (λ b. gentler i b l) (p i l) (cases-lt (v i) (u i))),
-       sum-cross (net .arcs) (λ e. net .arc e .price * gap (net .arc e) (meet u v)) (λ e. net .arc e .price * gap (net .arc e) (join u v))
-         (λ e. net .arc e .price * gap (net .arc e) u) (λ e. net .arc e .price * gap (net .arc e) v)
-         (λ e l. arc-cross (net .arc e .price) (u (net .arc e .from)) (v (net .arc e .from)) (u (net .arc e .to)) (v (net .arc e .to)) (net .arc e .offset)))
+    omega (
+      arith,
+      sum-cross (net .places) (λ i. net .cost i (meet u v i)) (λ i. d i (join u v i)) (λ i. net .cost i (u i)) (λ i. d i (v i))
+          (λ i l. value-cross-by (net .cost i) (d i) (net .top) (u i) (v i) (λ b. gentler i b l) (p i l) (cases-lt (v i) (u i))),
+      sum-cross (net .arcs) (λ e. net .arc e .price * gap (net .arc e) (meet u v)) (λ e. net .arc e .price * gap (net .arc e) (join u v))
+          (λ e. net .arc e .price * gap (net .arc e) u) (λ e. net .arc e .price * gap (net .arc e) v)
+          (λ e l. arc-cross (net .arc e .price) (u (net .arc e .from)) (v (net .arc e .from)) (u (net .arc e .to)) (v (net .arc e .to)) (net .arc e .offset)),
+    )
 
 gap-same : (a : Arc) (u v : Picture) → u (a .from) ≡ v (a .from) → u (a .to) ≡ v (a .to) → a .price * gap a u ≡ a .price * gap a v
 gap-same a u v e f = rw (e, f)
 
 pub net-reads : (net : Net) → Inside net → Reads (net .places) (net-total net)
 net-reads net inside u v h =
-    omega
-      (arith,
-       sum-same (net .places) (λ i. net .cost i (u i)) (λ i. net .cost i (v i)) (λ i l. ap (net .cost i) (h i l)),
-       sum-same (net .arcs) (λ e. net .arc e .price * gap (net .arc e) u) (λ e. net .arc e .price * gap (net .arc e) v)
-         (λ e l. gap-same (net .arc e) u v (h (net .arc e .from) (inside e l .0)) (h (net .arc e .to) (inside e l .1))))
+    omega (
+      arith,
+      sum-same (net .places) (λ i. net .cost i (u i)) (λ i. net .cost i (v i)) (λ i l. ap (net .cost i) (h i l)),
+      sum-same (net .arcs) (λ e. net .arc e .price * gap (net .arc e) u) (λ e. net .arc e .price * gap (net .arc e) v)
+          (λ e l. gap-same (net .arc e) u v (h (net .arc e .from) (inside e l .0)) (h (net .arc e .to) (inside e l .1))),
+    )

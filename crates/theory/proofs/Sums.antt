@@ -3,6 +3,7 @@ use mathlib.Core.Path.{_≡_, refl, sym, _∙_, ap}
 use mathlib.Core.Logic.{_⊎_, inl, inr}
 use Prim.Native.Nat.{ℕ, zero, suc, _+_, _*_, _≤_, _<_}
 use native.Mathlib.Omega.{arith}
+use native.Mathlib.Numerals.{add-one}
 use Rattle.std.proofs.shelf.Tests.{cases-eq}
 use Rattle.theory.specs.Sums.{sum}
 
@@ -43,3 +44,7 @@ sum-pairs (suc n) g =
     let two : 2 * suc n ≡ suc (suc (2 * n)) = omega arith in
     let one : suc (2 * n) ≡ 2 * n + 1 = omega arith in
     omega (arith, ap (λ m. sum m g) two, ap g one, sum-pairs n g)
+
+-- one term more, for a loop that adds up terms of at most b
+pub sum-more : (g : ℕ → ℕ) (n a x b : ℕ) → a ≡ sum n g → x ≡ g n → a ≤ n * b → x ≤ b → (a + x ≡ sum (n + 1) g) × (a + x ≤ (n + 1) * b)
+sum-more g n a x b e f h l = (rw add-one (omega arith), omega arith)

@@ -63,5 +63,5 @@ net-of f =
       top = f .top;
       cost = f .cost;
       arcs = 2 * f .sides;
-      arc = λ e. direction (eqb (e % 2) 0) (f .side (e / 2))
+      arc = λ e. direction (eqb (e % 2) 0) (f .side (e / 2));
     }

@@ -2,4 +2,4 @@ use Rattle.theory.proofs.Fields.{steeper, steeper-lowest}
 use Rattle.theory.proofs.steeper_holds.Needs as need
 
 pub returns : need.returns
-returns c = record { any = steeper; lowest = steeper-lowest }
+returns c = record { cheapest = steeper; lowest = steeper-lowest }

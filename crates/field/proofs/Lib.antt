@@ -1,0 +1,3 @@
+pub mod Firsts
+pub mod Rows
+pub mod Verdicts

@@ -1,0 +1,16 @@
+use lib.ListN.{length}
+use native.Mathlib.Omega.{arith}
+use Rattle.std.proofs.shelf.Tests.{le-leb, lt-leb}
+use Rattle.field.specs.Rules.{value-rule}
+use Rattle.field.proofs.Firsts.{first-more, first-here, must-pass, must-stop}
+use Rattle.field.proofs.rules.values_fit.Needs as need
+
+pub returns-then-value-top : need.returns-then-value-top
+returns-then-value-top c =
+    first-here (value-rule (c .args .top) (c .args .picture .now)) (c .loop-place .place) (length (c .args .picture .now)) _
+    (c .loop-place .inv) (must-stop _ _ (lt-leb _ _ (c .if-value-top .taken))) (omega arith)
+
+pub loop-place-again : need.loop-place-again
+loop-place-again c =
+    first-more (value-rule (c .args .top) (c .args .picture .now)) _ (c .loop-place .inv)
+    (must-pass _ _ (le-leb _ _ (c .if-value-top .left)))

@@ -1,0 +1,30 @@
+-- What is answered when it is asked what a picture costs. Assumes nothing: these are definitions.
+use mathlib.Core.List.{List}
+use Prim.Native.Nat.{ℕ}
+use lib.Dec.{eqb}
+use lib.ListN.{length}
+use Rattle.std.specs.declared.option.Option.the-variants.{Some, None}
+use Rattle.std.specs.declared.result.Result.{Result}
+use Rattle.std.specs.declared.result.Result.the-variants.{Ok, Err}
+use Rattle.field.specs.declared.refusal.Refusal.{Refusal}
+use Rattle.field.specs.declared.refusal.Refusal.the-variants.{PictureLength}
+use Rattle.field.specs.declared.refusal.Rooms.{Rooms}
+use Rattle.field.specs.Rules.{Verdict, must, and-then, verdict, values-fit}
+
+-- what is turned away has no cost
+abbrev pub answered : Verdict → ℕ → Result ℕ Refusal
+answered (Ok u) n = Ok n
+answered (Err e) n = Err e
+
+-- of a field that is taken, only the picture can be wrong
+abbrev pub picture-fits : ℕ → ℕ → List ℕ → Verdict
+picture-fits places top picture = and-then (must (eqb (length picture) places) PictureLength) (values-fit top picture)
+
+-- a picture is lent, and no flows
+abbrev pub one-picture : List ℕ → Rooms
+one-picture picture = record { picture = Some (length picture); flows = None }
+
+-- rules 1 to 6
+abbrev pub all-fits : ℕ → ℕ → (costs sides picture : List ℕ) → Verdict
+all-fits places top costs sides picture =
+    and-then (verdict places top costs sides (one-picture picture)) (values-fit top picture)

@@ -1,0 +1,5 @@
+pub mod Numbered
+pub mod Given
+pub mod Rules
+pub mod Taken
+pub mod Costed

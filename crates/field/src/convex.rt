@@ -1,0 +1,63 @@
+ghost use mathlib.Core.Path.{_≡_};
+ghost use Prim.Native.Nat.{ℕ, suc, _+_, _*_, _<_, _≤_};
+ghost use lib.ListN.{length, getD};
+ghost use Rattle.field.specs.Given.{cost-in};
+ghost use Rattle.field.specs.Rules.{first, convex-rule, convex-place};
+use super::refusal::Refusal;
+
+// One place's costs by value, as an array with room for every value there can be; past the top it has 0.
+pub fn place_costs(costs: &[u32], top: usize, place: usize) -> [u32; 256]
+    requires low { ⌜ top ≤ 255 ⌝ }
+    requires within { ⌜ place * suc top + suc top ≤ length (now costs) ⌝ }
+    ensures size { λ r. ⌜ length r ≡ 256 ⌝ }
+    ensures each { λ r. ⌜ ((v : ℕ) → v ≤ top → getD r v 0 ≡ cost-in top (now (costs .entry)) place v) ⌝ }
+{
+    let mut row = [0; 256];
+    let start = place * (top + 1);
+    row[0..top + 1].copy_from_slice(&costs[start..start + (top + 1)]);
+    row
+}
+
+// 5: one place's costs, at each value between two others.
+fn convex_at(row: [u32; 256], top: usize, place: usize) -> Result<(), Refusal>
+    requires tall { ⌜ 1 ≤ top ⌝ }
+    requires low { ⌜ top ≤ 255 ⌝ }
+    requires few { ⌜ place < 65536 ⌝ }
+    requires size { ⌜ length row ≡ 256 ⌝ }
+    ensures { λ r. ⌜ r ≡ first (convex-rule place (λ v. getD row v 0)) top ⌝ }
+{
+    for value in 1..top {
+        if 2 * u64::from(row[value]) > u64::from(row[value - 1]) + u64::from(row[value + 1]) {
+            return Err(Refusal::NotConvex {
+                place: place as u32,
+                value: value as u32,
+            });
+        }
+    }
+    Ok(())
+}
+
+// 5: the costs of one place.
+fn convex_place(costs: &[u32], top: usize, place: usize) -> Result<(), Refusal>
+    requires tall { ⌜ 1 ≤ top ⌝ }
+    requires low { ⌜ top ≤ 255 ⌝ }
+    requires few { ⌜ place < 65536 ⌝ }
+    requires within { ⌜ place * suc top + suc top ≤ length (now costs) ⌝ }
+    ensures { λ r. ⌜ r ≡ convex-place top (now (costs .entry)) place ⌝ }
+{
+    convex_at(place_costs(costs, top, place), top, place)
+}
+
+// 5: the costs of each place.
+pub fn all_convex(costs: &[u32], top: usize, places: usize) -> Result<(), Refusal>
+    requires tall { ⌜ 1 ≤ top ⌝ }
+    requires low { ⌜ top ≤ 255 ⌝ }
+    requires few { ⌜ places ≤ 65536 ⌝ }
+    requires sized { ⌜ length (now costs) ≡ places * suc top ⌝ }
+    ensures { λ r. ⌜ r ≡ first (convex-place top (now (costs .entry))) places ⌝ }
+{
+    for place in 0..places {
+        convex_place(costs, top, place)?;
+    }
+    Ok(())
+}

@@ -1,0 +1,94 @@
+ghost use mathlib.Core.Path.{_≡_};
+ghost use Prim.Native.Nat.{ℕ, suc, _+_, _*_, _<_, _≤_};
+ghost use lib.ListN.{length, getD};
+ghost use Rattle.std.specs.Options.{Cases};
+ghost use Rattle.theory.specs.Sums.{sum};
+ghost use Rattle.theory.specs.Fields.{side-cost, side-costs, total};
+ghost use Rattle.field.specs.Given.{sides-of, side-in, cost-in, picture-in, field-in};
+ghost use Rattle.field.specs.Costed.{answered, picture-fits, all-fits};
+use super::convex::place_costs;
+use super::refusal::Refusal;
+use super::refusal::Rooms;
+use super::rules::values_fit;
+use super::side::Side;
+use super::verdict::examine;
+use super::view::FieldView;
+
+impl FieldView<'_> {
+    // What the values of a picture cost at their places.
+    fn values_cost(&self, picture: &[u32]) -> u64
+        requires long { ⌜ length (now picture) ≡ now self .places ⌝ }
+        requires low { ⌜ ((i : ℕ) → getD (now picture) i 0 ≤ now self .top) ⌝ }
+        ensures sum { λ r. ⌜ r ≡ sum (now (self .entry) .places) (λ i. cost-in (now (self .entry) .top) (now (now (self .entry) .costs)) i (picture-in (now (picture .entry)) i)) ⌝ }
+        ensures small { λ r. ⌜ r ≤ 65536 * 1000000000 ⌝ }
+    {
+        let mut cost = 0;
+        for (place, value) in picture.iter().enumerate() {
+            cost += u64::from(self.costs[place * (self.top + 1) + *value as usize]);
+        }
+        cost
+    }
+
+    // What the steps between neighbours cost.
+    fn sides_cost(&self, picture: &[u32]) -> u64
+        requires long { ⌜ length (now picture) ≡ now self .places ⌝ }
+        requires low { ⌜ ((i : ℕ) → getD (now picture) i 0 ≤ 255) ⌝ }
+        ensures sum { λ r. ⌜ r ≡ sum (sides-of (now (now (self .entry) .sides))) (λ k. side-cost (side-in (now (now (self .entry) .sides)) k) (picture-in (now (picture .entry)))) ⌝ }
+        ensures small { λ r. ⌜ r ≤ 262144 * 255000000 ⌝ }
+    {
+        let mut cost = 0;
+        for k in 0..self.sides.len() / 3 {
+            cost += Side::read(self.sides, k).cost(picture);
+        }
+        cost
+    }
+    // What a picture of the field costs. One of another length, or with a value above the top, is turned away.
+    pub fn cost_of(&self, picture: &[u32]) -> Result<u64, Refusal>
+        ensures { λ r. ⌜ r ≡ answered (picture-fits (now (self .entry) .places) (now (self .entry) .top) (now (picture .entry))) (total (field-in (now (self .entry) .places) (now (self .entry) .top) (now (now (self .entry) .costs)) (now (now (self .entry) .sides))) (picture-in (now (picture .entry)))) ⌝ }
+    {
+        if picture.len() != self.places {
+            return Err(Refusal::PictureLength);
+        }
+        values_fit(self.top, picture)?;
+        Ok(self.values_cost(picture) + self.sides_cost(picture))
+    }
+
+    // One place's costs by value, as an array; none past the field.
+    pub fn costs_at(&self, place: usize) -> Option<[u32; 256]>
+        ensures { λ r. ⌜ Cases r (now (self .entry) .places ≤ place) (λ row. (place < now (self .entry) .places) × ((v : ℕ) → v ≤ now (self .entry) .top → getD row v 0 ≡ cost-in (now (self .entry) .top) (now (now (self .entry) .costs)) place v)) ⌝ }
+    {
+        if place >= self.places {
+            return None;
+        }
+        Some(place_costs(self.costs, self.top, place))
+    }
+}
+
+// What a picture costs, over lent numbers that nobody has looked at: the first of rules 1 to 6 that applies, or the cost.
+pub fn picture_cost<'a>(
+    places: u64,
+    top: u64,
+    costs: &'a [u32],
+    sides: &'a [u32],
+    picture: &[u32],
+) -> Result<u64, Refusal>
+    ensures { λ r. ⌜ r ≡ answered (all-fits places top (now (costs .entry)) (now (sides .entry)) (now (picture .entry))) (total (field-in places top (now (costs .entry)) (now (sides .entry))) (picture-in (now (picture .entry)))) ⌝ }
+{
+    examine(
+        places,
+        top,
+        costs,
+        sides,
+        Rooms {
+            picture: Some(picture.len()),
+            flows: None,
+        },
+    )?;
+    let field = FieldView {
+        places: places as usize,
+        top: top as usize,
+        costs,
+        sides,
+    };
+    field.cost_of(picture)
+}

@@ -1,0 +1,49 @@
+ghost use mathlib.Core.Path.{_≡_};
+ghost use Prim.Native.Nat.{ℕ, suc, _+_, _*_, _<_, _≤_};
+ghost use lib.ListN.{length, getD};
+ghost use Rattle.theory.specs.Fields.{apart};
+ghost use Rattle.field.specs.Given.{sides-of, side-in};
+ghost use Rattle.field.specs.Rules.{side-test};
+use super::limits::MOST_PRICE;
+
+// A side: two places that lie side by side, and the price of each step between their values.
+#[derive(Clone, Copy)]
+pub struct Side {
+    pub first: usize,
+    pub second: usize,
+    pub price: u32,
+}
+
+impl Side {
+    // The k-th side of lent numbers, three numbers a side.
+    pub fn read(sides: &[u32], k: usize) -> Side
+        requires { ⌜ k < sides-of (now sides) ⌝ }
+        ensures first { λ r. ⌜ r .first ≡ side-in (now (sides .entry)) k .first ⌝ }
+        ensures second { λ r. ⌜ r .second ≡ side-in (now (sides .entry)) k .second ⌝ }
+        ensures price { λ r. ⌜ r .price ≡ side-in (now (sides .entry)) k .price ⌝ }
+    {
+        Side {
+            first: sides[3 * k] as usize,
+            second: sides[3 * k + 1] as usize,
+            price: sides[3 * k + 2],
+        }
+    }
+
+    // Whether both places are places of the field, and the price is allowed.
+    pub fn fits(self, places: usize) -> bool
+        ensures { λ r. ⌜ r ≡ side-test places (record { first = self .first; second = self .second; price = self .price }) ⌝ }
+    {
+        self.first < places && self.second < places && self.price <= MOST_PRICE
+    }
+    // What a picture pays for the side: the price for each step by which its two values are apart.
+    pub fn cost(self, picture: &[u32]) -> u64
+        requires start { ⌜ self .first < length (now picture) ⌝ }
+        requires end { ⌜ self .second < length (now picture) ⌝ }
+        requires price { ⌜ self .price ≤ 1000000 ⌝ }
+        requires low { ⌜ ((i : ℕ) → getD (now picture) i 0 ≤ 255) ⌝ }
+        ensures value { λ r. ⌜ r ≡ self .price * apart (getD (now (picture .entry)) (self .first) 0) (getD (now (picture .entry)) (self .second) 0) ⌝ }
+        ensures small { λ r. ⌜ r ≤ 255000000 ⌝ }
+    {
+        u64::from(self.price) * u64::from(picture[self.first].abs_diff(picture[self.second]))
+    }
+}
