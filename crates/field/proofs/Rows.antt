@@ -2,7 +2,8 @@
 use mathlib.Core.Path.{_≡_, refl}
 use Prim.Native.Nat.{ℕ, suc, _+_, _-_, _*_, _≤_, _<_}
 use native.Mathlib.Omega.{arith}
-use native.Mathlib.Nat.{mul-le-mul-right}
+use native.Mathlib.Nat.{mul-le-mul, mul-le-mul-right}
+use Rattle.theory.specs.Fields.{apart}
 use Rattle.field.specs.Rules.{convex-rule}
 
 -- the costs of n places lie one after the other, for the values up to t
@@ -12,3 +13,7 @@ row-within i n t count l e = omega (arith, mul-le-mul-right (suc t) l)
 -- the rule of convex costs sees a place's costs only up to the top
 pub rule-same : (i : ℕ) (c d : ℕ → ℕ) (top : ℕ) → ((v : ℕ) → v ≤ top → c v ≡ d v) → (v : ℕ) → v < top → convex-rule i c v ≡ convex-rule i d v
 rule-same i c d top h v l = rw (h v (omega arith), h (v - 1) (omega arith), h (v + 1) (omega arith))
+
+-- what a side costs at most
+pub steps-small : (p a b : ℕ) → p ≤ 1000000 → a ≤ 255 → b ≤ 255 → p * apart a b ≤ 255000000
+steps-small p a b h k l = let far : apart a b ≤ 255 = omega arith in mul-le-mul h far

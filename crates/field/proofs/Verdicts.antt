@@ -17,28 +17,34 @@ use Rattle.field.specs.declared.refusal.Rooms.{Rooms}
 use Rattle.theory.specs.Fields.{Sound}
 use Rattle.field.specs.Given.{cost-in, side-in, sides-of, field-in}
 use Rattle.field.specs.Rules.{Verdict, must, and-then, first, sizes, lengths, rooms-fit, cost-rule, side-test, side-rule, convex-test, convex-rule, convex-place, value-rule, values-fit, verdict}
-use Rattle.field.specs.Taken.{Taken}
+use Rattle.field.specs.Taken.{Sized, Laid, Taken}
 use Rattle.field.proofs.Firsts.{both-ok, must-hold, must-pass, first-all, first-none}
 
-pub sizes-taken : (places top : ℕ) → sizes places top ≡ Ok tt → (1 ≤ places) × (places ≤ 65536) × (1 ≤ top) × (top ≤ 255)
+pub sizes-taken : (places top : ℕ) → sizes places top ≡ Ok tt → Sized places top
 sizes-taken places top h =
     let b = both-ok _ _ h in
     let p = and-parts _ _ (must-hold _ _ (b .0)) in
     let t = and-parts _ _ (must-hold _ _ (b .1)) in
-    (leb-true _ _ (p .0), leb-true _ _ (p .1), leb-true _ _ (t .0), leb-true _ _ (t .1))
+    record {
+      some = leb-true _ _ (p .0);
+      few = leb-true _ _ (p .1);
+      tall = leb-true _ _ (t .0);
+      low = leb-true _ _ (t .1)
+    }
 
-pub lengths-taken :
-    (places top : ℕ) (costs sides : List ℕ) → lengths places top costs sides ≡ Ok tt →
-    (length costs ≡ places * suc top) × (length sides ≡ 3 * sides-of sides) × (sides-of sides ≤ 262144)
-lengths-taken places top costs sides h =
+pub lengths-taken : (places top : ℕ) (costs sides : List ℕ) → Sized places top → lengths places top costs sides ≡ Ok tt → Laid places top costs sides
+lengths-taken places top costs sides size h =
     let b = both-ok _ _ h in
     let s = and-parts _ _ (must-hold _ _ (b .1)) in
-    let r : length sides % 3 ≡ 0 = eqb-true _ _ (s .0) in
-    (eqb-true _ _ (must-hold _ _ (b .0)), omega arith, leb-true _ _ (s .1))
-
--- a field that is taken has so many costs at most
-pub few-costs : (places top : ℕ) (costs : List ℕ) → places ≤ 65536 → top ≤ 255 → length costs ≡ places * suc top → length costs ≤ 65536 * 256
-few-costs places top costs p t e = let s : suc top ≤ 256 = omega arith in rw e (mul-le-mul p s)
+    let each : length costs ≡ places * suc top = eqb-true _ _ (must-hold _ _ (b .0)) in
+    let rest : length sides % 3 ≡ 0 = eqb-true _ _ (s .0) in
+    let values : suc top ≤ 256 = omega arith in
+    record {
+      each = each;
+      light = rw each (mul-le-mul (size .few) values);
+      threes = omega arith;
+      scarce = leb-true _ _ (s .1)
+    }
 
 -- past a list's end there is 0
 at-most : (xs : List ℕ) (m k : ℕ) → (k < length xs) ⊎ (length xs ≤ k) → (k < length xs → getD xs k 0 ≤ m) → getD xs k 0 ≤ m
@@ -87,16 +93,10 @@ taken-by places top costs sides rooms h =
     let k = both-ok _ _ (r .1) in
     let e = both-ok _ _ (k .1) in
     let size = sizes-taken places top (s .0) in
-    let long = lengths-taken places top costs sides (l .0) in
     let side = side-taken places (length costs) sides (e .0) in
     record {
-      some = size .0;
-      few = size .1;
-      tall = size .2;
-      low = size .3;
-      sized = long .0;
-      threes = long .1;
-      scarce = long .2;
+      sized = size;
+      laid = lengths-taken places top costs sides size (l .0);
       cheap = cost-taken costs (k .0);
       starts = λ j m. side j m .0;
       ends = λ j m. side j m .1;

@@ -3,3 +3,4 @@ pub mod Given
 pub mod Rules
 pub mod Taken
 pub mod Costed
+pub mod Viewed

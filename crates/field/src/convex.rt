@@ -2,11 +2,11 @@ ghost use mathlib.Core.Path.{_≡_};
 ghost use Prim.Native.Nat.{ℕ, suc, _+_, _*_, _<_, _≤_};
 ghost use lib.ListN.{length, getD};
 ghost use Rattle.field.specs.Given.{cost-in};
-ghost use Rattle.field.specs.Rules.{first, convex-rule, convex-place};
+ghost use Rattle.field.specs.Rules.{first, convex-test, convex-rule, convex-place};
 use super::refusal::Refusal;
 
 // One place's costs by value, as an array with room for every value there can be; past the top it has 0.
-pub fn place_costs(costs: &[u32], top: usize, place: usize) -> [u32; 256]
+pub(super) fn place_costs(costs: &[u32], top: usize, place: usize) -> [u32; 256]
     requires low { ⌜ top ≤ 255 ⌝ }
     requires within { ⌜ place * suc top + suc top ≤ length (now costs) ⌝ }
     ensures size { λ r. ⌜ length r ≡ 256 ⌝ }
@@ -18,20 +18,25 @@ pub fn place_costs(costs: &[u32], top: usize, place: usize) -> [u32; 256]
     row
 }
 
+// 5: whether the cost of a value lies no higher than half way between those beside it.
+fn convex_at(row: &[u32; 256], value: usize) -> bool
+    requires above { ⌜ 1 ≤ value ⌝ }
+    requires below { ⌜ value < 255 ⌝ }
+    ensures { λ r. ⌜ r ≡ convex-test (λ v. getD (now (row .entry)) v 0) value ⌝ }
+{
+    2 * u64::from(row[value]) <= u64::from(row[value - 1]) + u64::from(row[value + 1])
+}
+
 // 5: one place's costs, at each value between two others.
-fn convex_at(row: [u32; 256], top: usize, place: usize) -> Result<(), Refusal>
+fn convex_row(row: [u32; 256], top: usize, place: usize) -> Result<(), Refusal>
     requires tall { ⌜ 1 ≤ top ⌝ }
     requires low { ⌜ top ≤ 255 ⌝ }
     requires few { ⌜ place < 65536 ⌝ }
-    requires size { ⌜ length row ≡ 256 ⌝ }
     ensures { λ r. ⌜ r ≡ first (convex-rule place (λ v. getD row v 0)) top ⌝ }
 {
     for value in 1..top {
-        if 2 * u64::from(row[value]) > u64::from(row[value - 1]) + u64::from(row[value + 1]) {
-            return Err(Refusal::NotConvex {
-                place: place as u32,
-                value: value as u32,
-            });
+        if !convex_at(&row, value) {
+            return Err(Refusal::NotConvex { place: place as u32, value: value as u32 });
         }
     }
     Ok(())
@@ -45,11 +50,11 @@ fn convex_place(costs: &[u32], top: usize, place: usize) -> Result<(), Refusal>
     requires within { ⌜ place * suc top + suc top ≤ length (now costs) ⌝ }
     ensures { λ r. ⌜ r ≡ convex-place top (now (costs .entry)) place ⌝ }
 {
-    convex_at(place_costs(costs, top, place), top, place)
+    convex_row(place_costs(costs, top, place), top, place)
 }
 
 // 5: the costs of each place.
-pub fn all_convex(costs: &[u32], top: usize, places: usize) -> Result<(), Refusal>
+pub(super) fn all_convex(costs: &[u32], top: usize, places: usize) -> Result<(), Refusal>
     requires tall { ⌜ 1 ≤ top ⌝ }
     requires low { ⌜ top ≤ 255 ⌝ }
     requires few { ⌜ places ≤ 65536 ⌝ }

@@ -2,9 +2,9 @@ ghost use mathlib.Core.Path.{_≡_};
 ghost use Prim.Native.Nat.{ℕ, suc, _+_, _*_, _<_, _≤_};
 ghost use lib.ListN.{length, getD};
 ghost use Rattle.std.specs.Options.{Cases};
-ghost use Rattle.theory.specs.Sums.{sum};
-ghost use Rattle.theory.specs.Fields.{side-cost, side-costs, total};
-ghost use Rattle.field.specs.Given.{sides-of, side-in, cost-in, picture-in, field-in};
+ghost use Rattle.theory.specs.Fields.{value-costs, side-costs, total};
+ghost use Rattle.field.specs.Given.{picture-in, field-in};
+ghost use Rattle.field.specs.Viewed.{field-of};
 ghost use Rattle.field.specs.Costed.{answered, picture-fits, all-fits};
 use super::convex::place_costs;
 use super::refusal::Refusal;
@@ -19,7 +19,7 @@ impl FieldView<'_> {
     fn values_cost(&self, picture: &[u32]) -> u64
         requires long { ⌜ length (now picture) ≡ now self .places ⌝ }
         requires low { ⌜ ((i : ℕ) → getD (now picture) i 0 ≤ now self .top) ⌝ }
-        ensures sum { λ r. ⌜ r ≡ sum (now (self .entry) .places) (λ i. cost-in (now (self .entry) .top) (now (now (self .entry) .costs)) i (picture-in (now (picture .entry)) i)) ⌝ }
+        ensures sum { λ r. ⌜ r ≡ value-costs (field-of (now (self .entry))) (picture-in (now (picture .entry))) ⌝ }
         ensures small { λ r. ⌜ r ≤ 65536 * 1000000000 ⌝ }
     {
         let mut cost = 0;
@@ -33,7 +33,7 @@ impl FieldView<'_> {
     fn sides_cost(&self, picture: &[u32]) -> u64
         requires long { ⌜ length (now picture) ≡ now self .places ⌝ }
         requires low { ⌜ ((i : ℕ) → getD (now picture) i 0 ≤ 255) ⌝ }
-        ensures sum { λ r. ⌜ r ≡ sum (sides-of (now (now (self .entry) .sides))) (λ k. side-cost (side-in (now (now (self .entry) .sides)) k) (picture-in (now (picture .entry)))) ⌝ }
+        ensures sum { λ r. ⌜ r ≡ side-costs (field-of (now (self .entry))) (picture-in (now (picture .entry))) ⌝ }
         ensures small { λ r. ⌜ r ≤ 262144 * 255000000 ⌝ }
     {
         let mut cost = 0;
@@ -44,7 +44,7 @@ impl FieldView<'_> {
     }
     // What a picture of the field costs. One of another length, or with a value above the top, is turned away.
     pub fn cost_of(&self, picture: &[u32]) -> Result<u64, Refusal>
-        ensures { λ r. ⌜ r ≡ answered (picture-fits (now (self .entry) .places) (now (self .entry) .top) (now (picture .entry))) (total (field-in (now (self .entry) .places) (now (self .entry) .top) (now (now (self .entry) .costs)) (now (now (self .entry) .sides))) (picture-in (now (picture .entry)))) ⌝ }
+        ensures { λ r. ⌜ r ≡ answered (picture-fits (now (self .entry) .places) (now (self .entry) .top) (now (picture .entry))) (total (field-of (now (self .entry))) (picture-in (now (picture .entry)))) ⌝ }
     {
         if picture.len() != self.places {
             return Err(Refusal::PictureLength);
@@ -55,7 +55,7 @@ impl FieldView<'_> {
 
     // One place's costs by value, as an array; none past the field.
     pub fn costs_at(&self, place: usize) -> Option<[u32; 256]>
-        ensures { λ r. ⌜ Cases r (now (self .entry) .places ≤ place) (λ row. (place < now (self .entry) .places) × ((v : ℕ) → v ≤ now (self .entry) .top → getD row v 0 ≡ cost-in (now (self .entry) .top) (now (now (self .entry) .costs)) place v)) ⌝ }
+        ensures { λ r. ⌜ Cases r (now (self .entry) .places ≤ place) (λ row. (place < now (self .entry) .places) × ((v : ℕ) → v ≤ now (self .entry) .top → getD row v 0 ≡ field-of (now (self .entry)) .cost place v)) ⌝ }
     {
         if place >= self.places {
             return None;

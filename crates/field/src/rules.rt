@@ -1,16 +1,19 @@
 ghost use mathlib.Core.Path.{_≡_};
-ghost use Prim.Native.Nat.{ℕ, suc, _+_, _-_, _*_, _<_, _≤_};
+ghost use Prim.Native.Nat.{ℕ, _*_, _≤_};
 ghost use lib.ListN.{length, getD};
-ghost use Rattle.field.specs.Given.{sides-of, cost-in, side-in};
-ghost use Rattle.field.specs.Rules.{sizes, lengths, fits, rooms-fit, first, cost-rule, side-test, side-rule, convex-rule, convex-place, value-rule, values-fit};
+ghost use Rattle.std.specs.Vec.{made};
+ghost use Rattle.field.specs.Given.{sides-of};
+ghost use Rattle.field.specs.Rules.{sizes, lengths, fits, rooms-fit, first, cost-rule, side-rule, values-fit};
+ghost use Rattle.field.specs.Taken.{Sized, Laid};
 use super::limits::*;
 use super::refusal::Refusal;
 use super::refusal::Rooms;
 use super::side::Side;
 
 // 1: how many places, and the highest value.
-pub fn sizes_fit(places: u64, top: u64) -> Result<(), Refusal>
-    ensures { λ r. ⌜ r ≡ sizes places top ⌝ }
+pub(super) fn sizes_fit(places: u64, top: u64) -> Result<(), Refusal>
+    ensures answer { λ r. ⌜ r ≡ sizes places top ⌝ }
+    ensures taken { λ r. ⌜ made r (λ _. Sized places top) ⌝ }
 {
     if places < 1 || places > MOST_PLACES {
         return Err(Refusal::Places);
@@ -22,10 +25,10 @@ pub fn sizes_fit(places: u64, top: u64) -> Result<(), Refusal>
 }
 
 // 2: how many costs and sides.
-pub fn lengths_fit(places: usize, top: usize, costs: &[u32], sides: &[u32]) -> Result<(), Refusal>
-    requires few { ⌜ places ≤ 65536 ⌝ }
-    requires low { ⌜ top ≤ 255 ⌝ }
-    ensures { λ r. ⌜ r ≡ lengths places top (now (costs .entry)) (now (sides .entry)) ⌝ }
+pub(super) fn lengths_fit(places: usize, top: usize, costs: &[u32], sides: &[u32]) -> Result<(), Refusal>
+    requires { ⌜ Sized places top ⌝ }
+    ensures answer { λ r. ⌜ r ≡ lengths places top (now (costs .entry)) (now (sides .entry)) ⌝ }
+    ensures taken { λ r. ⌜ made r (λ _. Laid places top (now (costs .entry)) (now (sides .entry))) ⌝ }
 {
     if costs.len() != places * (top + 1) {
         return Err(Refusal::CostsLength);
@@ -47,7 +50,7 @@ fn room_fits(lent: Option<usize>, wanted: usize) -> bool
 }
 
 // 3: how much room for a picture and for flows.
-pub fn rooms_fit(places: usize, sides: &[u32], rooms: Rooms) -> Result<(), Refusal>
+pub(super) fn rooms_fit(places: usize, sides: &[u32], rooms: Rooms) -> Result<(), Refusal>
     requires { ⌜ sides-of (now sides) ≤ 262144 ⌝ }
     ensures { λ r. ⌜ r ≡ rooms-fit places (now (sides .entry)) rooms ⌝ }
 {
@@ -61,7 +64,7 @@ pub fn rooms_fit(places: usize, sides: &[u32], rooms: Rooms) -> Result<(), Refus
 }
 
 // 4: each cost.
-pub fn costs_fit(costs: &[u32]) -> Result<(), Refusal>
+pub(super) fn costs_fit(costs: &[u32]) -> Result<(), Refusal>
     requires { ⌜ length (now costs) ≤ 65536 * 256 ⌝ }
     ensures { λ r. ⌜ r ≡ first (cost-rule (now (costs .entry))) (length (now (costs .entry))) ⌝ }
 {
@@ -74,7 +77,7 @@ pub fn costs_fit(costs: &[u32]) -> Result<(), Refusal>
 }
 
 // 4: each side, counted on from the costs.
-pub fn sides_fit(places: usize, costs: usize, sides: &[u32]) -> Result<(), Refusal>
+pub(super) fn sides_fit(places: usize, costs: usize, sides: &[u32]) -> Result<(), Refusal>
     requires few { ⌜ sides-of (now sides) ≤ 262144 ⌝ }
     requires cost { ⌜ costs ≤ 65536 * 256 ⌝ }
     ensures { λ r. ⌜ r ≡ first (side-rule places costs (now (sides .entry))) (sides-of (now (sides .entry))) ⌝ }
@@ -91,9 +94,10 @@ pub fn sides_fit(places: usize, costs: usize, sides: &[u32]) -> Result<(), Refus
 }
 
 // 6: each value of a picture.
-pub fn values_fit(top: usize, picture: &[u32]) -> Result<(), Refusal>
+pub(super) fn values_fit(top: usize, picture: &[u32]) -> Result<(), Refusal>
     requires { ⌜ length (now picture) ≤ 65536 ⌝ }
-    ensures { λ r. ⌜ r ≡ values-fit top (now (picture .entry)) ⌝ }
+    ensures answer { λ r. ⌜ r ≡ values-fit top (now (picture .entry)) ⌝ }
+    ensures taken { λ r. ⌜ made r (λ _. (i : ℕ) → getD (now (picture .entry)) i 0 ≤ top) ⌝ }
 {
     for (place, value) in picture.iter().enumerate() {
         if *value as usize > top {

@@ -1,5 +1,5 @@
 ghost use mathlib.Core.Path.{_≡_};
-ghost use Prim.Native.Nat.{ℕ, suc, _+_, _*_, _<_, _≤_};
+ghost use Prim.Native.Nat.{ℕ, _*_, _<_, _≤_};
 ghost use lib.ListN.{length, getD};
 ghost use Rattle.theory.specs.Fields.{apart};
 ghost use Rattle.field.specs.Given.{sides-of, side-in};
@@ -16,7 +16,7 @@ pub struct Side {
 
 impl Side {
     // The k-th side of lent numbers, three numbers a side.
-    pub fn read(sides: &[u32], k: usize) -> Side
+    pub(super) fn read(sides: &[u32], k: usize) -> Side
         requires { ⌜ k < sides-of (now sides) ⌝ }
         ensures first { λ r. ⌜ r .first ≡ side-in (now (sides .entry)) k .first ⌝ }
         ensures second { λ r. ⌜ r .second ≡ side-in (now (sides .entry)) k .second ⌝ }
@@ -30,19 +30,18 @@ impl Side {
     }
 
     // Whether both places are places of the field, and the price is allowed.
-    pub fn fits(self, places: usize) -> bool
+    pub(super) fn fits(self, places: usize) -> bool
         ensures { λ r. ⌜ r ≡ side-test places (record { first = self .first; second = self .second; price = self .price }) ⌝ }
     {
         self.first < places && self.second < places && self.price <= MOST_PRICE
     }
     // What a picture pays for the side: the price for each step by which its two values are apart.
-    pub fn cost(self, picture: &[u32]) -> u64
+    pub(super) fn cost(self, picture: &[u32]) -> u64
         requires start { ⌜ self .first < length (now picture) ⌝ }
         requires end { ⌜ self .second < length (now picture) ⌝ }
         requires price { ⌜ self .price ≤ 1000000 ⌝ }
         requires low { ⌜ ((i : ℕ) → getD (now picture) i 0 ≤ 255) ⌝ }
-        ensures value { λ r. ⌜ r ≡ self .price * apart (getD (now (picture .entry)) (self .first) 0) (getD (now (picture .entry)) (self .second) 0) ⌝ }
-        ensures small { λ r. ⌜ r ≤ 255000000 ⌝ }
+        ensures { λ r. ⌜ r ≡ self .price * apart (getD (now (picture .entry)) (self .first) 0) (getD (now (picture .entry)) (self .second) 0) ⌝ }
     {
         u64::from(self.price) * u64::from(picture[self.first].abs_diff(picture[self.second]))
     }

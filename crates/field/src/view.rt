@@ -16,7 +16,7 @@ pub struct FieldView<'a> {
     ghost few: { places ≤ 65536 },
     ghost tall: { 1 ≤ top },
     ghost low: { top ≤ 255 },
-    ghost sized: { length (now costs) ≡ places * suc top },
+    ghost each: { length (now costs) ≡ places * suc top },
     ghost threes: { length (now sides) ≡ 3 * sides-of (now sides) },
     ghost scarce: { sides-of (now sides) ≤ 262144 },
     ghost cheap: { (k : ℕ) → getD (now costs) k 0 ≤ 1000000000 },

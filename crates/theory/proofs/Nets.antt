@@ -7,7 +7,7 @@ use native.Mathlib.Nat.{mul-le-mul-left}
 use Rattle.std.proofs.shelf.Tests.{cases-lt}
 use Rattle.theory.specs.Sums.{sum}
 use Rattle.theory.specs.Pictures.{Picture, Within, meet, join}
-use Rattle.theory.specs.Nets.{Arc, Net, Inside, gap, value-costs, arc-costs, net-total}
+use Rattle.theory.specs.Nets.{Arc, Net, Inside, gap, arc-costs, net-total}
 use Rattle.theory.proofs.Sums.{sum-same, sum-cross}
 use Rattle.theory.proofs.Lattice.{Crosses}
 use Rattle.theory.proofs.Minimise.{Reads}

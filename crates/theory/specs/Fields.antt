@@ -33,7 +33,10 @@ Of f u = Within (f .places) (f .top) u
 abbrev pub apart : ℕ → ℕ → ℕ
 apart a b = (a - b) + (b - a)
 
--- what a side costs, what all sides cost, and what a picture costs
+-- what the values of the places cost, what a side costs and all sides, and what a picture costs
+abbrev pub value-costs : Field → Picture → ℕ
+value-costs f u = sum (f .places) (λ i. f .cost i (u i))
+
 abbrev pub side-cost : Side → Picture → ℕ
 side-cost s u = s .price * apart (u (s .first)) (u (s .second))
 
@@ -41,7 +44,7 @@ abbrev pub side-costs : Field → Picture → ℕ
 side-costs f u = sum (f .sides) (λ k. side-cost (f .side k) u)
 
 abbrev pub total : Field → Picture → ℕ
-total f u = sum (f .places) (λ i. f .cost i (u i)) + side-costs f u
+total f u = value-costs f u + side-costs f u
 
 -- none costs less
 abbrev pub Cheapest : Field → Picture → Type 0

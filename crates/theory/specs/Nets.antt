@@ -26,12 +26,9 @@ Inside net = (e : ℕ) → e < net .arcs → (net .arc e .from < net .places) ×
 abbrev pub gap : Arc → Picture → ℕ
 gap a u = (u (a .from) - u (a .to)) - a .offset
 
--- what the values of the places cost, what the arcs cost, and both together
-abbrev pub value-costs : Net → Picture → ℕ
-value-costs net u = sum (net .places) (λ i. net .cost i (u i))
-
+-- what the arcs cost, and what they and the values of the places cost together
 abbrev pub arc-costs : Net → Picture → ℕ
 arc-costs net u = sum (net .arcs) (λ e. net .arc e .price * gap (net .arc e) u)
 
 abbrev pub net-total : Net → Picture → ℕ
-net-total net u = value-costs net u + arc-costs net u
+net-total net u = sum (net .places) (λ i. net .cost i (u i)) + arc-costs net u

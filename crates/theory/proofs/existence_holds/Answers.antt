@@ -1,5 +1,6 @@
+use borrow.Author.Needs.{needs}
 use Rattle.theory.proofs.Fields.{existence}
 use Rattle.theory.proofs.existence_holds.Needs as need
 
 pub returns : need.returns
-returns c = existence
+returns c = search (needs, existence)

@@ -1,5 +1,6 @@
+use borrow.Author.Needs.{needs}
 use Rattle.theory.proofs.Fields.{meet-join}
 use Rattle.theory.proofs.meet_join_holds.Needs as need
 
 pub returns : need.returns
-returns c = meet-join
+returns c = search (needs, meet-join)

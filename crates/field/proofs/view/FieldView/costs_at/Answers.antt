@@ -7,5 +7,5 @@ pub place-costs-requires : need.place-costs-requires
 place-costs-requires c κs =
     record {
       low = search needs;
-      within = row-within (c .args .place) (c .args .self .now .places) (c .args .self .now .top) (length (c .args .self .now .costs .now)) (search needs) (c .args .self .now .sized);
+      within = row-within (c .args .place) (c .args .self .now .places) (c .args .self .now .top) (length (c .args .self .now .costs .now)) (search needs) (c .args .self .now .each);
     }

@@ -10,7 +10,7 @@ use Rattle.field.proofs.view.FieldView.values_cost.Needs as need
 
 pub index-self-place : need.index-self-place
 index-self-place c =
-    let row = row-within (c .loop-place .place) (c .args .self .now .places) (c .args .self .now .top) (length (c .args .self .now .costs .now)) (omega arith) (c .args .self .now .sized) in
+    let row = row-within (c .loop-place .place) (c .args .self .now .places) (c .args .self .now .top) (length (c .args .self .now .costs .now)) (omega arith) (c .args .self .now .each) in
     omega (arith, c .pre .low (c .loop-place .place))
 
 pub loop-place-again : need.loop-place-again
