@@ -1,22 +1,23 @@
 -- What a verdict says, read back for every place, value and side, and the other way round.
-use mathlib.Core.Path.{_≡_, refl, sym}
-use mathlib.Core.Bool.{Bool, true, false, _&&_}
+use mathlib.Core.Path.{_≡_, refl}
+use mathlib.Core.Bool.{true}
 use mathlib.Core.List.{List}
 use mathlib.Core.Logic.{_⊎_, inl, inr}
-use Prim.Native.Nat.{ℕ, zero, suc, _+_, _-_, _*_, _/_, _%_, _≤_, _<_}
+use Prim.Native.Nat.{ℕ, zero, suc, _+_, _-_, _*_, _%_, _≤_, _<_}
 use native.Mathlib.Omega.{arith}
 use native.Mathlib.Nat.{mul-le-mul}
-use lib.Dec.{ltb, leb, eqb}
+use lib.Dec.{eqb}
 use lib.ListN.{length, getD}
 use Rattle.std.specs.declared.result.Result.the-variants.{Ok, Err}
 use Rattle.std.specs.Vec.{made}
 use Rattle.std.proofs.shelf.Lists.{getD-past}
-use Rattle.std.proofs.shelf.Tests.{cases-lt, leb-true, ltb-true, eqb-true, and-parts, le-leb, lt-ltb, eq-eqb, and-from, or-right}
+use Rattle.std.proofs.shelf.Tests.{cases-lt, leb-true, ltb-true, eqb-true, and-parts, le-leb, lt-ltb, and-from, or-right}
 use Rattle.std.proofs.shelf.Ways.{tells}
+use Rattle.field.specs.Limits.{most-top, most-cost, most-price}
 use Rattle.field.specs.declared.refusal.Rooms.{Rooms}
 use Rattle.theory.specs.Fields.{Sound}
 use Rattle.field.specs.Given.{cost-in, side-in, sides-of, field-in}
-use Rattle.field.specs.Rules.{Verdict, must, and-then, first, sizes, lengths, rooms-fit, cost-rule, side-test, side-rule, convex-test, convex-rule, convex-place, value-rule, values-fit, verdict}
+use Rattle.field.specs.Rules.{Verdict, first, sizes, lengths, rooms-fit, cost-rule, side-rule, convex-test, convex-rule, convex-place, value-rule, values-fit, verdict}
 use Rattle.field.specs.Taken.{Sized, Laid, Taken}
 use Rattle.field.proofs.Firsts.{both-ok, must-hold, must-pass, first-all, first-none}
 
@@ -29,7 +30,7 @@ sizes-taken places top h =
       some = leb-true _ _ (p .0);
       few = leb-true _ _ (p .1);
       tall = leb-true _ _ (t .0);
-      low = leb-true _ _ (t .1)
+      low = leb-true _ _ (t .1);
     }
 
 pub lengths-taken : (places top : ℕ) (costs sides : List ℕ) → Sized places top → lengths places top costs sides ≡ Ok tt → Laid places top costs sides
@@ -38,12 +39,12 @@ lengths-taken places top costs sides size h =
     let s = and-parts _ _ (must-hold _ _ (b .1)) in
     let each : length costs ≡ places * suc top = eqb-true _ _ (must-hold _ _ (b .0)) in
     let rest : length sides % 3 ≡ 0 = eqb-true _ _ (s .0) in
-    let values : suc top ≤ 256 = omega arith in
+    let values : suc top ≤ suc most-top = omega arith in
     record {
       each = each;
       light = rw each (mul-le-mul (size .few) values);
       threes = omega arith;
-      scarce = leb-true _ _ (s .1)
+      scarce = leb-true _ _ (s .1);
     }
 
 -- past a list's end there is 0
@@ -51,9 +52,9 @@ at-most : (xs : List ℕ) (m k : ℕ) → (k < length xs) ⊎ (length xs ≤ k) 
 at-most xs m k (inl l) h = h l
 at-most xs m k (inr l) h = rw (getD-past xs k 0 l) (omega arith)
 
-cost-taken : (costs : List ℕ) → first (cost-rule costs) (length costs) ≡ Ok tt → (k : ℕ) → getD costs k 0 ≤ 1000000000
+cost-taken : (costs : List ℕ) → first (cost-rule costs) (length costs) ≡ Ok tt → (k : ℕ) → getD costs k 0 ≤ most-cost
 cost-taken costs h k =
-    at-most costs 1000000000 k (cases-lt k (length costs))
+    at-most costs most-cost k (cases-lt k (length costs))
     (λ l. leb-true _ _ (must-hold _ _ (first-all (cost-rule costs) (length costs) h k l)))
 
 pub values-taken : (top : ℕ) (picture : List ℕ) → values-fit top picture ≡ Ok tt → (i : ℕ) → getD picture i 0 ≤ top
@@ -63,7 +64,7 @@ values-taken top picture h i =
 
 side-taken :
     (places count : ℕ) (sides : List ℕ) → first (side-rule places count sides) (sides-of sides) ≡ Ok tt → (k : ℕ) → k < sides-of sides →
-    (side-in sides k .first < places) × (side-in sides k .second < places) × (side-in sides k .price ≤ 1000000)
+    (side-in sides k .first < places) × (side-in sides k .second < places) × (side-in sides k .price ≤ most-price)
 side-taken places count sides h k l =
     let t = and-parts _ _ (must-hold _ _ (first-all (side-rule places count sides) (sides-of sides) h k l)) in
     let e = and-parts _ _ (t .0) in
@@ -109,10 +110,10 @@ sound-by places top costs sides t =
     record { inside = λ k l. (t .starts k l, t .ends k l); convex = t .convex }
 
 -- and where all this holds and the rooms fit, nothing applies
-cost-passes : (costs : List ℕ) (k : ℕ) → getD costs k 0 ≤ 1000000000 → cost-rule costs k ≡ Ok tt
+cost-passes : (costs : List ℕ) (k : ℕ) → getD costs k 0 ≤ most-cost → cost-rule costs k ≡ Ok tt
 cost-passes costs k h = must-pass _ _ (le-leb _ _ h)
 
-side-passes : (places count : ℕ) (sides : List ℕ) (k : ℕ) → side-in sides k .first < places → side-in sides k .second < places → side-in sides k .price ≤ 1000000 → side-rule places count sides k ≡ Ok tt
+side-passes : (places count : ℕ) (sides : List ℕ) (k : ℕ) → side-in sides k .first < places → side-in sides k .second < places → side-in sides k .price ≤ most-price → side-rule places count sides k ≡ Ok tt
 side-passes places count sides k s e p = must-pass _ _ (and-from _ _ (and-from _ _ (lt-ltb _ _ s) (lt-ltb _ _ e)) (le-leb _ _ p))
 
 convex-passes : (i : ℕ) (cost : ℕ → ℕ) (v : ℕ) → ((w : ℕ) → suc w ≡ v → cost (suc w) + cost (suc w) ≤ cost w + cost (suc (suc w))) → convex-rule i cost v ≡ Ok tt

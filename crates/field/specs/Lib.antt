@@ -1,6 +1,7 @@
+pub mod Limits
 pub mod Numbered
 pub mod Given
 pub mod Rules
 pub mod Taken
-pub mod Costed
 pub mod Viewed
+pub mod Costed

@@ -1,7 +1,7 @@
 -- What is turned away: rules in a fixed order, of which the first that applies is the answer. Assumes nothing: these are definitions.
-use mathlib.Core.Bool.{Bool, true, false, cond, _&&_, _||_}
+use mathlib.Core.Bool.{Bool, true, cond, _&&_, _||_}
 use mathlib.Core.List.{List}
-use Prim.Native.Nat.{ℕ, zero, suc, _+_, _*_, _-_, _/_, _%_}
+use Prim.Native.Nat.{ℕ, zero, suc, _+_, _*_, _-_, _%_}
 use lib.Dec.{ltb, leb, eqb}
 use lib.ListN.{length, getD}
 use Rattle.std.specs.declared.option.Option.{Option}
@@ -12,6 +12,7 @@ use Rattle.theory.specs.Fields.{Side}
 use Rattle.field.specs.declared.refusal.Refusal.{Refusal}
 use Rattle.field.specs.declared.refusal.Refusal.the-variants.{Places, Top, CostsLength, SidesLength, PictureLength, FlowsLength, CostTooHigh, SideOutOfRange, NotConvex, ValueTooHigh}
 use Rattle.field.specs.declared.refusal.Rooms.{Rooms}
+use Rattle.field.specs.Limits.{most-places, most-top, most-sides, most-cost, most-price}
 use Rattle.field.specs.Given.{cost-in, side-in, sides-of}
 
 -- taken, or turned away
@@ -34,13 +35,13 @@ first t (suc n) = and-then (first t n) (t n)
 -- 1: how many places, and the highest value
 abbrev pub sizes : ℕ → ℕ → Verdict
 sizes places top =
-    and-then (must (leb 1 places && leb places 65536) Places) (must (leb 1 top && leb top 255) Top)
+    and-then (must (leb 1 places && leb places most-places) Places) (must (leb 1 top && leb top most-top) Top)
 
 -- 2: how many costs and sides
 abbrev pub lengths : ℕ → ℕ → (costs sides : List ℕ) → Verdict
 lengths places top costs sides =
     and-then (must (eqb (length costs) (places * suc top)) CostsLength)
-    (must (eqb (length sides % 3) 0 && leb (sides-of sides) 262144) SidesLength)
+    (must (eqb (length sides % 3) 0 && leb (sides-of sides) most-sides) SidesLength)
 
 -- 3: how much room, where any is lent
 abbrev pub fits : Option ℕ → ℕ → Bool
@@ -54,10 +55,10 @@ rooms-fit places sides rooms =
 
 -- 4: a cost, a side
 abbrev pub cost-rule : List ℕ → ℕ → Verdict
-cost-rule costs k = must (leb (getD costs k 0) 1000000000) (CostTooHigh k)
+cost-rule costs k = must (leb (getD costs k 0) most-cost) (CostTooHigh k)
 
 abbrev pub side-test : ℕ → Side → Bool
-side-test places s = (ltb (s .first) places && ltb (s .second) places) && leb (s .price) 1000000
+side-test places s = (ltb (s .first) places && ltb (s .second) places) && leb (s .price) most-price
 
 abbrev pub side-rule : ℕ → ℕ → List ℕ → ℕ → Verdict
 side-rule places count sides k = must (side-test places (side-in sides k)) (SideOutOfRange count k)

@@ -1,13 +1,14 @@
 ghost use mathlib.Core.Path.{_≡_};
 ghost use Prim.Native.Nat.{ℕ, suc, _+_, _*_, _<_, _≤_};
 ghost use lib.ListN.{length, getD};
+ghost use Rattle.field.specs.Limits.{most-places, most-top};
 ghost use Rattle.field.specs.Given.{cost-in};
 ghost use Rattle.field.specs.Rules.{first, convex-test, convex-rule, convex-place};
 use super::refusal::Refusal;
 
 // One place's costs by value, as an array with room for every value there can be; past the top it has 0.
 pub(super) fn place_costs(costs: &[u32], top: usize, place: usize) -> [u32; 256]
-    requires low { ⌜ top ≤ 255 ⌝ }
+    requires low { ⌜ top ≤ most-top ⌝ }
     requires within { ⌜ place * suc top + suc top ≤ length (now costs) ⌝ }
     ensures size { λ r. ⌜ length r ≡ 256 ⌝ }
     ensures each { λ r. ⌜ ((v : ℕ) → v ≤ top → getD r v 0 ≡ cost-in top (now (costs .entry)) place v) ⌝ }
@@ -21,7 +22,7 @@ pub(super) fn place_costs(costs: &[u32], top: usize, place: usize) -> [u32; 256]
 // 5: whether the cost of a value lies no higher than half way between those beside it.
 fn convex_at(row: &[u32; 256], value: usize) -> bool
     requires above { ⌜ 1 ≤ value ⌝ }
-    requires below { ⌜ value < 255 ⌝ }
+    requires below { ⌜ value < most-top ⌝ }
     ensures { λ r. ⌜ r ≡ convex-test (λ v. getD (now (row .entry)) v 0) value ⌝ }
 {
     2 * u64::from(row[value]) <= u64::from(row[value - 1]) + u64::from(row[value + 1])
@@ -30,13 +31,16 @@ fn convex_at(row: &[u32; 256], value: usize) -> bool
 // 5: one place's costs, at each value between two others.
 fn convex_row(row: [u32; 256], top: usize, place: usize) -> Result<(), Refusal>
     requires tall { ⌜ 1 ≤ top ⌝ }
-    requires low { ⌜ top ≤ 255 ⌝ }
-    requires few { ⌜ place < 65536 ⌝ }
+    requires low { ⌜ top ≤ most-top ⌝ }
+    requires few { ⌜ place < most-places ⌝ }
     ensures { λ r. ⌜ r ≡ first (convex-rule place (λ v. getD row v 0)) top ⌝ }
 {
     for value in 1..top {
         if !convex_at(&row, value) {
-            return Err(Refusal::NotConvex { place: place as u32, value: value as u32 });
+            return Err(Refusal::NotConvex {
+                place: place as u32,
+                value: value as u32,
+            });
         }
     }
     Ok(())
@@ -45,8 +49,8 @@ fn convex_row(row: [u32; 256], top: usize, place: usize) -> Result<(), Refusal>
 // 5: the costs of one place.
 fn convex_place(costs: &[u32], top: usize, place: usize) -> Result<(), Refusal>
     requires tall { ⌜ 1 ≤ top ⌝ }
-    requires low { ⌜ top ≤ 255 ⌝ }
-    requires few { ⌜ place < 65536 ⌝ }
+    requires low { ⌜ top ≤ most-top ⌝ }
+    requires few { ⌜ place < most-places ⌝ }
     requires within { ⌜ place * suc top + suc top ≤ length (now costs) ⌝ }
     ensures { λ r. ⌜ r ≡ convex-place top (now (costs .entry)) place ⌝ }
 {
@@ -56,8 +60,8 @@ fn convex_place(costs: &[u32], top: usize, place: usize) -> Result<(), Refusal>
 // 5: the costs of each place.
 pub(super) fn all_convex(costs: &[u32], top: usize, places: usize) -> Result<(), Refusal>
     requires tall { ⌜ 1 ≤ top ⌝ }
-    requires low { ⌜ top ≤ 255 ⌝ }
-    requires few { ⌜ places ≤ 65536 ⌝ }
+    requires low { ⌜ top ≤ most-top ⌝ }
+    requires few { ⌜ places ≤ most-places ⌝ }
     requires sized { ⌜ length (now costs) ≡ places * suc top ⌝ }
     ensures { λ r. ⌜ r ≡ first (convex-place top (now (costs .entry))) places ⌝ }
 {

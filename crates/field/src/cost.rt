@@ -1,8 +1,10 @@
 ghost use mathlib.Core.Path.{_≡_};
-ghost use Prim.Native.Nat.{ℕ, suc, _+_, _*_, _<_, _≤_};
+ghost use Prim.Native.Nat.{ℕ, _+_, _*_, _<_, _≤_};
 ghost use lib.ListN.{length, getD};
 ghost use Rattle.std.specs.Options.{Cases};
-ghost use Rattle.theory.specs.Fields.{value-costs, side-costs, total};
+ghost use Rattle.std.specs.Vec.{made};
+ghost use Rattle.theory.specs.Fields.{Of, value-costs, side-costs, total};
+ghost use Rattle.field.specs.Limits.{most-places, most-top, most-sides, most-cost, most-side-cost};
 ghost use Rattle.field.specs.Given.{picture-in, field-in};
 ghost use Rattle.field.specs.Viewed.{field-of};
 ghost use Rattle.field.specs.Costed.{answered, picture-fits, all-fits};
@@ -20,7 +22,7 @@ impl FieldView<'_> {
         requires long { ⌜ length (now picture) ≡ now self .places ⌝ }
         requires low { ⌜ ((i : ℕ) → getD (now picture) i 0 ≤ now self .top) ⌝ }
         ensures sum { λ r. ⌜ r ≡ value-costs (field-of (now (self .entry))) (picture-in (now (picture .entry))) ⌝ }
-        ensures small { λ r. ⌜ r ≤ 65536 * 1000000000 ⌝ }
+        ensures small { λ r. ⌜ r ≤ most-places * most-cost ⌝ }
     {
         let mut cost = 0;
         for (place, value) in picture.iter().enumerate() {
@@ -32,9 +34,9 @@ impl FieldView<'_> {
     // What the steps between neighbours cost.
     fn sides_cost(&self, picture: &[u32]) -> u64
         requires long { ⌜ length (now picture) ≡ now self .places ⌝ }
-        requires low { ⌜ ((i : ℕ) → getD (now picture) i 0 ≤ 255) ⌝ }
+        requires low { ⌜ ((i : ℕ) → getD (now picture) i 0 ≤ most-top) ⌝ }
         ensures sum { λ r. ⌜ r ≡ side-costs (field-of (now (self .entry))) (picture-in (now (picture .entry))) ⌝ }
-        ensures small { λ r. ⌜ r ≤ 262144 * 255000000 ⌝ }
+        ensures small { λ r. ⌜ r ≤ most-sides * most-side-cost ⌝ }
     {
         let mut cost = 0;
         for k in 0..self.sides.len() / 3 {
@@ -42,9 +44,11 @@ impl FieldView<'_> {
         }
         cost
     }
+
     // What a picture of the field costs. One of another length, or with a value above the top, is turned away.
     pub fn cost_of(&self, picture: &[u32]) -> Result<u64, Refusal>
-        ensures { λ r. ⌜ r ≡ answered (picture-fits (now (self .entry) .places) (now (self .entry) .top) (now (picture .entry))) (total (field-of (now (self .entry))) (picture-in (now (picture .entry)))) ⌝ }
+        ensures answer { λ r. ⌜ r ≡ answered (picture-fits (now (self .entry) .places) (now (self .entry) .top) (now (picture .entry))) (total (field-of (now (self .entry))) (picture-in (now (picture .entry)))) ⌝ }
+        ensures of { λ r. ⌜ made r (λ _. Of (field-of (now (self .entry))) (picture-in (now (picture .entry)))) ⌝ }
     {
         if picture.len() != self.places {
             return Err(Refusal::PictureLength);
@@ -72,7 +76,8 @@ pub fn picture_cost<'a>(
     sides: &'a [u32],
     picture: &[u32],
 ) -> Result<u64, Refusal>
-    ensures { λ r. ⌜ r ≡ answered (all-fits places top (now (costs .entry)) (now (sides .entry)) (now (picture .entry))) (total (field-in places top (now (costs .entry)) (now (sides .entry))) (picture-in (now (picture .entry)))) ⌝ }
+    ensures answer { λ r. ⌜ r ≡ answered (all-fits places top (now (costs .entry)) (now (sides .entry)) (now (picture .entry))) (total (field-in places top (now (costs .entry)) (now (sides .entry))) (picture-in (now (picture .entry)))) ⌝ }
+    ensures of { λ r. ⌜ made r (λ _. Of (field-in places top (now (costs .entry)) (now (sides .entry))) (picture-in (now (picture .entry)))) ⌝ }
 {
     examine(
         places,

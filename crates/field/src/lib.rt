@@ -10,6 +10,8 @@ mod view;
 
 pub use cost::picture_cost;
 pub use refusal::Refusal;
+pub use refusal::RefusalDebug;
+pub use refusal::RefusalPartialEq;
 pub use refusal::Rooms;
 pub use verdict::examine;
 pub use view::FieldView;

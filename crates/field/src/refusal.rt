@@ -1,5 +1,4 @@
 ghost use mathlib.Core.Path.{_≡_};
-ghost use Prim.Native.Nat.{ℕ, _<_};
 ghost use Rattle.field.specs.Numbered.{numberOf, placeOf};
 
 // Why an input is turned away. The rules are tried in the order in which they stand here, and the first that applies

@@ -1,7 +1,8 @@
 ghost use mathlib.Core.Path.{_≡_};
-ghost use Prim.Native.Nat.{ℕ, _*_, _≤_};
+ghost use Prim.Native.Nat.{ℕ, _≤_};
 ghost use lib.ListN.{length, getD};
 ghost use Rattle.std.specs.Vec.{made};
+ghost use Rattle.field.specs.Limits.{most-places, most-sides, most-costs};
 ghost use Rattle.field.specs.Given.{sides-of};
 ghost use Rattle.field.specs.Rules.{sizes, lengths, fits, rooms-fit, first, cost-rule, side-rule, values-fit};
 ghost use Rattle.field.specs.Taken.{Sized, Laid};
@@ -25,7 +26,12 @@ pub(super) fn sizes_fit(places: u64, top: u64) -> Result<(), Refusal>
 }
 
 // 2: how many costs and sides.
-pub(super) fn lengths_fit(places: usize, top: usize, costs: &[u32], sides: &[u32]) -> Result<(), Refusal>
+pub(super) fn lengths_fit(
+    places: usize,
+    top: usize,
+    costs: &[u32],
+    sides: &[u32],
+) -> Result<(), Refusal>
     requires { ⌜ Sized places top ⌝ }
     ensures answer { λ r. ⌜ r ≡ lengths places top (now (costs .entry)) (now (sides .entry)) ⌝ }
     ensures taken { λ r. ⌜ made r (λ _. Laid places top (now (costs .entry)) (now (sides .entry))) ⌝ }
@@ -51,7 +57,7 @@ fn room_fits(lent: Option<usize>, wanted: usize) -> bool
 
 // 3: how much room for a picture and for flows.
 pub(super) fn rooms_fit(places: usize, sides: &[u32], rooms: Rooms) -> Result<(), Refusal>
-    requires { ⌜ sides-of (now sides) ≤ 262144 ⌝ }
+    requires { ⌜ sides-of (now sides) ≤ most-sides ⌝ }
     ensures { λ r. ⌜ r ≡ rooms-fit places (now (sides .entry)) rooms ⌝ }
 {
     if !room_fits(rooms.picture, places) {
@@ -65,7 +71,7 @@ pub(super) fn rooms_fit(places: usize, sides: &[u32], rooms: Rooms) -> Result<()
 
 // 4: each cost.
 pub(super) fn costs_fit(costs: &[u32]) -> Result<(), Refusal>
-    requires { ⌜ length (now costs) ≤ 65536 * 256 ⌝ }
+    requires { ⌜ length (now costs) ≤ most-costs ⌝ }
     ensures { λ r. ⌜ r ≡ first (cost-rule (now (costs .entry))) (length (now (costs .entry))) ⌝ }
 {
     for (k, cost) in costs.iter().enumerate() {
@@ -78,8 +84,8 @@ pub(super) fn costs_fit(costs: &[u32]) -> Result<(), Refusal>
 
 // 4: each side, counted on from the costs.
 pub(super) fn sides_fit(places: usize, costs: usize, sides: &[u32]) -> Result<(), Refusal>
-    requires few { ⌜ sides-of (now sides) ≤ 262144 ⌝ }
-    requires cost { ⌜ costs ≤ 65536 * 256 ⌝ }
+    requires few { ⌜ sides-of (now sides) ≤ most-sides ⌝ }
+    requires cost { ⌜ costs ≤ most-costs ⌝ }
     ensures { λ r. ⌜ r ≡ first (side-rule places costs (now (sides .entry))) (sides-of (now (sides .entry))) ⌝ }
 {
     for k in 0..sides.len() / 3 {
@@ -95,7 +101,7 @@ pub(super) fn sides_fit(places: usize, costs: usize, sides: &[u32]) -> Result<()
 
 // 6: each value of a picture.
 pub(super) fn values_fit(top: usize, picture: &[u32]) -> Result<(), Refusal>
-    requires { ⌜ length (now picture) ≤ 65536 ⌝ }
+    requires { ⌜ length (now picture) ≤ most-places ⌝ }
     ensures answer { λ r. ⌜ r ≡ values-fit top (now (picture .entry)) ⌝ }
     ensures taken { λ r. ⌜ made r (λ _. (i : ℕ) → getD (now (picture .entry)) i 0 ≤ top) ⌝ }
 {

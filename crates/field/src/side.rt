@@ -2,6 +2,7 @@ ghost use mathlib.Core.Path.{_≡_};
 ghost use Prim.Native.Nat.{ℕ, _*_, _<_, _≤_};
 ghost use lib.ListN.{length, getD};
 ghost use Rattle.theory.specs.Fields.{apart};
+ghost use Rattle.field.specs.Limits.{most-top, most-price};
 ghost use Rattle.field.specs.Given.{sides-of, side-in};
 ghost use Rattle.field.specs.Rules.{side-test};
 use super::limits::MOST_PRICE;
@@ -35,12 +36,13 @@ impl Side {
     {
         self.first < places && self.second < places && self.price <= MOST_PRICE
     }
+
     // What a picture pays for the side: the price for each step by which its two values are apart.
     pub(super) fn cost(self, picture: &[u32]) -> u64
         requires start { ⌜ self .first < length (now picture) ⌝ }
         requires end { ⌜ self .second < length (now picture) ⌝ }
-        requires price { ⌜ self .price ≤ 1000000 ⌝ }
-        requires low { ⌜ ((i : ℕ) → getD (now picture) i 0 ≤ 255) ⌝ }
+        requires price { ⌜ self .price ≤ most-price ⌝ }
+        requires low { ⌜ ((i : ℕ) → getD (now picture) i 0 ≤ most-top) ⌝ }
         ensures { λ r. ⌜ r ≡ self .price * apart (getD (now (picture .entry)) (self .first) 0) (getD (now (picture .entry)) (self .second) 0) ⌝ }
     {
         u64::from(self.price) * u64::from(picture[self.first].abs_diff(picture[self.second]))

@@ -1,11 +1,14 @@
 ghost use denote.Ref.{now};
 ghost use mathlib.Core.Path.{_≡_};
-ghost use Prim.Native.Nat.{ℕ, suc, _+_, _*_, _<_, _≤_};
-ghost use lib.ListN.{length, getD};
-ghost use Rattle.field.specs.Given.{cost-in, side-in, sides-of};
+ghost use Prim.Native.Nat.{suc, _*_, _≤_};
+ghost use lib.ListN.{length};
+ghost use Rattle.field.specs.Limits.{most-places, most-top, most-sides};
+ghost use Rattle.field.specs.Given.{sides-of};
+ghost use Rattle.field.specs.Taken.{Cheap, Starts, Ends, Priced, Convex};
 
 // A field over lent numbers that are taken: costs place by place, top + 1 of them each, and sides as three numbers
-// each. What is known of numbers that are taken is known of every view.
+// each. What holds of numbers that are taken is the invariant, so a view is made where `examine` has answered that
+// nothing applies.
 #[derive(Clone, Copy)]
 pub struct FieldView<'a> {
     pub places: usize,
@@ -13,15 +16,15 @@ pub struct FieldView<'a> {
     pub costs: &'a [u32],
     pub sides: &'a [u32],
     ghost some: { 1 ≤ places },
-    ghost few: { places ≤ 65536 },
+    ghost few: { places ≤ most-places },
     ghost tall: { 1 ≤ top },
-    ghost low: { top ≤ 255 },
+    ghost low: { top ≤ most-top },
     ghost each: { length (now costs) ≡ places * suc top },
     ghost threes: { length (now sides) ≡ 3 * sides-of (now sides) },
-    ghost scarce: { sides-of (now sides) ≤ 262144 },
-    ghost cheap: { (k : ℕ) → getD (now costs) k 0 ≤ 1000000000 },
-    ghost starts: { (k : ℕ) → k < sides-of (now sides) → side-in (now sides) k .first < places },
-    ghost ends: { (k : ℕ) → k < sides-of (now sides) → side-in (now sides) k .second < places },
-    ghost priced: { (k : ℕ) → k < sides-of (now sides) → side-in (now sides) k .price ≤ 1000000 },
-    ghost convex: { (i v : ℕ) → i < places → suc (suc v) ≤ top → cost-in top (now costs) i (suc v) + cost-in top (now costs) i (suc v) ≤ cost-in top (now costs) i v + cost-in top (now costs) i (suc (suc v)) },
+    ghost scarce: { sides-of (now sides) ≤ most-sides },
+    ghost cheap: { Cheap (now costs) },
+    ghost starts: { Starts places (now sides) },
+    ghost ends: { Ends places (now sides) },
+    ghost priced: { Priced (now sides) },
+    ghost convex: { Convex places top (now costs) },
 }

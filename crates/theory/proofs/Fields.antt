@@ -1,14 +1,14 @@
 -- What holds of fields, by their nets.
 use mathlib.Core.Path.{_≡_, refl, ap}
 use mathlib.Core.Bool.{Bool, true, false}
-use Prim.Native.Nat.{ℕ, suc, _+_, _*_, _-_, _/_, _%_, _≤_, _<_}
+use Prim.Native.Nat.{ℕ, _+_, _*_, _-_, _/_, _%_, _<_}
 use native.Mathlib.Omega.{arith}
 use lib.Dec.{eqb}
 use Rattle.std.proofs.shelf.Tests.{eq-eqb, ne-eqb}
 use Rattle.theory.specs.Sums.{sum}
-use Rattle.theory.specs.Pictures.{Picture, Within, meet, join, Least, Undermost}
-use Rattle.theory.specs.Nets.{Arc, Net, Inside, gap, net-total, arc-costs}
-use Rattle.theory.specs.Fields.{Side, Field, Sound, Of, apart, side-cost, side-costs, total, Cheapest, Lowest, direction, net-of}
+use Rattle.theory.specs.Pictures.{Picture, meet, join, Least}
+use Rattle.theory.specs.Nets.{Inside, gap, net-total, arc-costs}
+use Rattle.theory.specs.Fields.{Side, Field, Sound, Of, side-cost, side-costs, total, Cheapest, Lowest, direction, net-of}
 use Rattle.theory.specs.Promises.{Both-cheapest, Steps-up, Under-cheapest, Under-lowest}
 use Rattle.theory.proofs.Sums.{sum-same, sum-pairs}
 use Rattle.theory.proofs.Lattice.{Crosses, Closed, within-closed, meet-least, join-least, under-all}

@@ -1,5 +1,4 @@
 -- The lower and the higher values of two pictures, for any costs of pictures that cross: K of the meet and L of the join cost no more than K of the one and L of the other.
-use mathlib.Core.Path.{_≡_}
 use Prim.Native.Nat.{ℕ, _+_, _≤_, _<_}
 use native.Mathlib.Omega.{arith}
 use Rattle.theory.specs.Pictures.{Picture, Within, meet, join, Least, Undermost}

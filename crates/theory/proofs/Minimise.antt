@@ -6,9 +6,9 @@ use native.Mathlib.Omega.{arith}
 use native.Mathlib.Nat.{mul-le-mul-right}
 use Rattle.std.proofs.shelf.Tests.{cases-lt, cases-eq}
 use Rattle.theory.specs.Sums.{sum}
-use Rattle.theory.specs.Pictures.{Picture, Within, meet, join, Least, Undermost}
+use Rattle.theory.specs.Pictures.{Picture, Within, meet, Least, Undermost}
 use Rattle.theory.proofs.Sums.{sum-same, sum-bound, sum-tight}
-use Rattle.theory.proofs.Lattice.{Crosses, Closed, within-closed, meet-least}
+use Rattle.theory.proofs.Lattice.{Crosses, within-closed, meet-least}
 
 -- pictures that agree on the first n places have one cost
 abbrev pub Reads : ℕ → (Picture → ℕ) → Type 0

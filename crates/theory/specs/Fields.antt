@@ -1,5 +1,5 @@
 -- Fields, what a picture of a field costs, and which pictures are cheapest. Assumes nothing: these are definitions.
-use mathlib.Core.Bool.{Bool, true, false, cond}
+use mathlib.Core.Bool.{Bool, true, false}
 use Prim.Native.Nat.{ℕ, suc, _+_, _*_, _-_, _/_, _%_, _≤_, _<_}
 use lib.Dec.{eqb}
 use Rattle.theory.specs.Sums.{sum}

@@ -1,8 +1,6 @@
 use mathlib.Core.Path.{_∙_}
 use lib.ListN.{getD}
-use native.Mathlib.Omega.{arith}
 use Rattle.field.specs.Given.{cost-in}
-use Rattle.field.specs.Rules.{convex-rule}
 use Rattle.field.proofs.Firsts.{first-same}
 use Rattle.field.proofs.Rows.{rule-same}
 use Rattle.field.proofs.convex.convex_place.Needs as need

@@ -1,5 +1,4 @@
 use mathlib.Core.Path.{_≡_, sym}
-use mathlib.Core.Bool.{true, false}
 use lib.ListN.{getD}
 use native.Mathlib.Omega.{arith}
 use Rattle.field.specs.Rules.{convex-rule}

@@ -11,5 +11,5 @@ returns c =
     let fit : lengths (c .args .places) (c .args .top) (c .args .costs .now) (c .args .sides .now) ≡ Ok tt = grind (arith, tells) in
     record {
       answer = sym fit;
-      taken = lengths-taken (c .args .places) (c .args .top) (c .args .costs .now) (c .args .sides .now) (c .pre) fit
+      taken = lengths-taken (c .args .places) (c .args .top) (c .args .costs .now) (c .args .sides .now) (c .pre) fit;
     }

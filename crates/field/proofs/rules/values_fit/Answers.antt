@@ -12,9 +12,9 @@ pub returns-then-value-top : need.returns-then-value-top
 returns-then-value-top c =
     record {
       answer =
-        first-here (value-rule (c .args .top) (c .args .picture .now)) (c .loop-place .place) (length (c .args .picture .now)) _ (c .loop-place .inv)
-        (must-stop _ _ (lt-leb _ _ (c .if-value-top .taken))) (omega arith);
-      taken = tt
+          first-here (value-rule (c .args .top) (c .args .picture .now)) (c .loop-place .place) (length (c .args .picture .now)) _ (c .loop-place .inv)
+          (must-stop _ _ (lt-leb _ _ (c .if-value-top .taken))) (omega arith);
+      taken = tt;
     }
 
 pub loop-place-again : need.loop-place-again
