@@ -1,5 +1,10 @@
 -- One place's costs among all.
-use mathlib.Core.Path.{_≡_}
+use mathlib.Core.Path.{_≡_, refl}
+use mathlib.Core.List.{List, _++_}
+use mathlib.Core.Logic.{_⊎_, inl, inr}
+use lib.ListN.{length, getD, drop, replicate, length-replicate}
+use Rattle.std.proofs.shelf.Lists.{getD-append-right, getD-drop, getD-past, getD-replicate}
+use Rattle.std.proofs.shelf.Tests.{cases-lt}
 use Prim.Native.Nat.{ℕ, suc, _+_, _-_, _*_, _≤_, _<_}
 use native.Mathlib.Omega.{arith}
 use native.Mathlib.Nat.{mul-le-mul, mul-le-mul-right}
@@ -18,3 +23,15 @@ rule-same i c d top h v l = rw (h v (omega arith), h (v - 1) (omega arith), h (v
 -- what a side costs at most
 pub steps-small : (p a b : ℕ) → p ≤ most-price → a ≤ most-top → b ≤ most-top → p * apart a b ≤ most-side-cost
 steps-small p a b h k l = let far : apart a b ≤ most-top = omega arith in mul-le-mul h far
+
+-- zeros wherever one looks
+zeros : (n i : ℕ) → (i < n) ⊎ (n ≤ i) → getD {A = ℕ} (replicate n 0) i 0 ≡ 0
+zeros n i (inl l) = getD-replicate n i 0 0 l
+zeros n i (inr l) = let short : length (replicate {A = ℕ} n 0) ≤ i = rw length-replicate l in getD-past _ i 0 short
+
+-- what lies past a part that was written over zeros
+pub past-written : (ys : List ℕ) (n k v : ℕ) → length ys ≤ v → getD (ys ++ drop k (replicate n 0)) v 0 ≡ 0
+past-written ys n k v h =
+    let blank : List ℕ = replicate n 0 in
+    let i : ℕ = v - length ys in
+    rw (getD-append-right ys (drop k blank) (length ys) v 0 refl h, getD-drop k blank i 0) (zeros n (k + i) (cases-lt (k + i) n))

@@ -12,6 +12,7 @@ pub(super) fn place_costs(costs: &[u32], top: usize, place: usize) -> [u32; 256]
     requires within { ⌜ place * suc top + suc top ≤ length (now costs) ⌝ }
     ensures size { λ r. ⌜ length r ≡ 256 ⌝ }
     ensures each { λ r. ⌜ ((v : ℕ) → v ≤ top → getD r v 0 ≡ cost-in top (now (costs .entry)) place v) ⌝ }
+    ensures past { λ r. ⌜ ((v : ℕ) → top < v → getD r v 0 ≡ 0) ⌝ }
 {
     let mut row = [0; 256];
     let start = place * (top + 1);

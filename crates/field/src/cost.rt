@@ -6,7 +6,7 @@ ghost use Rattle.std.specs.Vec.{made};
 ghost use Rattle.theory.specs.Fields.{Of, value-costs, side-costs, total};
 ghost use Rattle.field.specs.Limits.{most-places, most-top, most-sides, most-cost, most-side-cost};
 ghost use Rattle.field.specs.Given.{picture-in, field-in};
-ghost use Rattle.field.specs.Viewed.{field-of};
+ghost use Rattle.field.specs.Viewed.{Row-of, field-of};
 ghost use Rattle.field.specs.Costed.{answered, picture-fits, all-fits};
 use super::convex::place_costs;
 use super::refusal::Refusal;
@@ -57,9 +57,9 @@ impl FieldView<'_> {
         Ok(self.values_cost(picture) + self.sides_cost(picture))
     }
 
-    // One place's costs by value, as an array; none past the field.
+    // One place's costs by value, as an array with 0 past the top; none past the field.
     pub fn costs_at(&self, place: usize) -> Option<[u32; 256]>
-        ensures { λ r. ⌜ Cases r (now (self .entry) .places ≤ place) (λ row. (place < now (self .entry) .places) × ((v : ℕ) → v ≤ now (self .entry) .top → getD row v 0 ≡ field-of (now (self .entry)) .cost place v)) ⌝ }
+        ensures { λ r. ⌜ Cases r (now (self .entry) .places ≤ place) (λ row. (place < now (self .entry) .places) × Row-of (field-of (now (self .entry))) place row) ⌝ }
     {
         if place >= self.places {
             return None;

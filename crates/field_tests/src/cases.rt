@@ -28,7 +28,7 @@ pub const NO_ROOMS: Rooms = Rooms {
 };
 
 impl Case<'_> {
-    pub fn holds(&self) -> Result<(), Fail> {
+    pub(super) fn holds(&self) -> Result<(), Fail> {
         let answer = match examine(self.places, self.top, self.costs, self.sides, self.rooms) {
             Ok(()) => Answer::Taken,
             Err(refusal) => turned_away(refusal),
@@ -37,6 +37,6 @@ impl Case<'_> {
     }
 }
 
-pub fn turned_away(refusal: Refusal) -> Answer {
+pub(super) fn turned_away(refusal: Refusal) -> Answer {
     Answer::Refused(refusal.number(), refusal.place())
 }
