@@ -7,8 +7,8 @@ ghost use Rattle.field.specs.Given.{sides-of};
 ghost use Rattle.field.specs.Taken.{Cheap, Starts, Ends, Priced, Convex};
 
 // A field over lent numbers that are taken: costs place by place, top + 1 of them each, and sides as three numbers
-// each. What holds of numbers that are taken is the invariant, so a view is made where `examine` has answered that
-// nothing applies.
+// each. What holds of numbers that are taken is the invariant: it is owed wherever a view is lent, passed or returned,
+// so it can be made of use only where `examine` has answered that nothing applies.
 #[derive(Clone, Copy)]
 pub struct FieldView<'a> {
     pub places: usize,
