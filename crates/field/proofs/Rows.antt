@@ -24,14 +24,17 @@ rule-same i c d top h v l = rw (h v (omega arith), h (v - 1) (omega arith), h (v
 pub steps-small : (p a b : ℕ) → p ≤ most-price → a ≤ most-top → b ≤ most-top → p * apart a b ≤ most-side-cost
 steps-small p a b h k l = let far : apart a b ≤ most-top = omega arith in mul-le-mul h far
 
--- zeros wherever one looks
-zeros : (n i : ℕ) → (i < n) ⊎ (n ≤ i) → getD {A = ℕ} (replicate n 0) i 0 ≡ 0
-zeros n i (inl l) = getD-replicate n i 0 0 l
-zeros n i (inr l) = let short : length (replicate {A = ℕ} n 0) ≤ i = rw length-replicate l in getD-past _ i 0 short
+-- the same wherever one looks
+same-by : {A : Type 0} (n i : ℕ) (z : A) → (i < n) ⊎ (n ≤ i) → getD (replicate n z) i z ≡ z
+same-by n i z (inl l) = getD-replicate n i z z l
+same-by n i z (inr l) = let short : length (replicate n z) ≤ i = rw length-replicate l in getD-past _ i z short
+
+pub same-everywhere : {A : Type 0} (n i : ℕ) (z : A) → getD (replicate n z) i z ≡ z
+same-everywhere n i z = same-by n i z (cases-lt i n)
 
 -- what lies past a part that was written over zeros
 pub past-written : (ys : List ℕ) (n k v : ℕ) → length ys ≤ v → getD (ys ++ drop k (replicate n 0)) v 0 ≡ 0
 past-written ys n k v h =
     let blank : List ℕ = replicate n 0 in
     let i : ℕ = v - length ys in
-    rw (getD-append-right ys (drop k blank) (length ys) v 0 refl h, getD-drop k blank i 0) (zeros n (k + i) (cases-lt (k + i) n))
+    rw (getD-append-right ys (drop k blank) (length ys) v 0 refl h, getD-drop k blank i 0) (same-everywhere n (k + i) 0)

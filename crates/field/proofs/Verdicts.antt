@@ -17,7 +17,8 @@ use Rattle.field.specs.Limits.{most-top, most-cost, most-price}
 use Rattle.field.specs.declared.refusal.Rooms.{Rooms}
 use Rattle.theory.specs.Fields.{Sound}
 use Rattle.field.specs.Given.{cost-in, side-in, sides-of, field-in}
-use Rattle.field.specs.Rules.{Verdict, first, sizes, lengths, rooms-fit, cost-rule, side-rule, convex-test, convex-rule, convex-place, value-rule, values-fit, verdict}
+use Rattle.field.specs.Firsts.{first}
+use Rattle.field.specs.Rules.{Verdict, sizes, lengths, rooms-fit, cost-rule, side-rule, convex-test, convex-rule, convex-place, value-rule, values-fit, verdict}
 use Rattle.field.specs.Taken.{Sized, Laid, Taken}
 use Rattle.field.proofs.Firsts.{both-ok, must-hold, must-pass, first-all, first-none}
 
@@ -104,6 +105,12 @@ taken-by places top costs sides rooms h =
       priced = λ j m. side j m .2;
       convex = convex-taken places top costs (e .1);
     }
+
+pub rooms-by : (places top : ℕ) (costs sides : List ℕ) (rooms : Rooms) → verdict places top costs sides rooms ≡ Ok tt → rooms-fit places sides rooms ≡ Ok tt
+rooms-by places top costs sides rooms h =
+    let s = both-ok (sizes places top) _ h in
+    let l = both-ok (lengths places top costs sides) _ (s .1) in
+    both-ok (rooms-fit places sides rooms) _ (l .1) .0
 
 pub sound-by : (places top : ℕ) (costs sides : List ℕ) → Taken places top costs sides → Sound (field-in places top costs sides)
 sound-by places top costs sides t =

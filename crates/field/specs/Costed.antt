@@ -9,7 +9,8 @@ use Rattle.std.specs.declared.result.Result.the-variants.{Ok, Err}
 use Rattle.field.specs.declared.refusal.Refusal.{Refusal}
 use Rattle.field.specs.declared.refusal.Refusal.the-variants.{PictureLength}
 use Rattle.field.specs.declared.refusal.Rooms.{Rooms}
-use Rattle.field.specs.Rules.{Verdict, must, and-then, verdict, values-fit}
+use Rattle.field.specs.Firsts.{must, and-then}
+use Rattle.field.specs.Rules.{Verdict, verdict, values-fit}
 
 -- what is turned away has no cost
 abbrev pub answered : Verdict → ℕ → Result ℕ Refusal
@@ -24,7 +25,6 @@ picture-fits places top picture = and-then (must (eqb (length picture) places) P
 abbrev pub one-picture : List ℕ → Rooms
 one-picture picture = record { picture = Some (length picture); flows = None }
 
--- rules 1 to 6
-abbrev pub all-fits : ℕ → ℕ → (costs sides picture : List ℕ) → Verdict
-all-fits places top costs sides picture =
-    and-then (verdict places top costs sides (one-picture picture)) (values-fit top picture)
+-- rules 1 to 6, of a field, the rooms lent with it and a picture
+abbrev pub all-fits : ℕ → ℕ → (costs sides : List ℕ) → Rooms → List ℕ → Verdict
+all-fits places top costs sides rooms picture = and-then (verdict places top costs sides rooms) (values-fit top picture)

@@ -1,6 +1,7 @@
 pub mod Limits
 pub mod Numbered
 pub mod Given
+pub mod Firsts
 pub mod Rules
 pub mod Taken
 pub mod Viewed

@@ -1,36 +1,22 @@
 -- What is turned away: rules in a fixed order, of which the first that applies is the answer. Assumes nothing: these are definitions.
-use mathlib.Core.Bool.{Bool, true, cond, _&&_, _||_}
+use mathlib.Core.Bool.{Bool, true, _&&_, _||_}
 use mathlib.Core.List.{List}
-use Prim.Native.Nat.{ℕ, zero, suc, _+_, _*_, _-_, _%_}
+use Prim.Native.Nat.{ℕ, suc, _+_, _*_, _-_, _%_}
 use lib.Dec.{ltb, leb, eqb}
 use lib.ListN.{length, getD}
 use Rattle.std.specs.declared.option.Option.{Option}
 use Rattle.std.specs.declared.option.Option.the-variants.{Some, None}
-use Rattle.std.specs.declared.result.Result.{Result}
-use Rattle.std.specs.declared.result.Result.the-variants.{Ok, Err}
 use Rattle.theory.specs.Fields.{Side}
 use Rattle.field.specs.declared.refusal.Refusal.{Refusal}
 use Rattle.field.specs.declared.refusal.Refusal.the-variants.{Places, Top, CostsLength, SidesLength, PictureLength, FlowsLength, CostTooHigh, SideOutOfRange, NotConvex, ValueTooHigh}
 use Rattle.field.specs.declared.refusal.Rooms.{Rooms}
 use Rattle.field.specs.Limits.{most-places, most-top, most-sides, most-cost, most-price}
 use Rattle.field.specs.Given.{cost-in, side-in, sides-of}
+use Rattle.field.specs.Firsts.{Tried, must, and-then, first}
 
 -- taken, or turned away
 abbrev pub Verdict : Type 0
-Verdict = Result (Unit {0}) Refusal
-
--- a rule: whoever does not pass the test is turned away
-abbrev pub must : Bool → Refusal → Verdict
-must b e = cond b (Ok tt) (Err e)
-
--- the first of two verdicts that turns away, and the first of n
-abbrev pub and-then : Verdict → Verdict → Verdict
-and-then (Ok u) s = s
-and-then (Err e) s = Err e
-
-abbrev pub first : (ℕ → Verdict) → ℕ → Verdict
-first t zero = Ok tt
-first t (suc n) = and-then (first t n) (t n)
+Verdict = Tried Refusal
 
 -- 1: how many places, and the highest value
 abbrev pub sizes : ℕ → ℕ → Verdict

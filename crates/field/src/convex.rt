@@ -3,7 +3,8 @@ ghost use Prim.Native.Nat.{ℕ, suc, _+_, _*_, _<_, _≤_};
 ghost use lib.ListN.{length, getD};
 ghost use Rattle.field.specs.Limits.{most-places, most-top};
 ghost use Rattle.field.specs.Given.{cost-in};
-ghost use Rattle.field.specs.Rules.{first, convex-test, convex-rule, convex-place};
+ghost use Rattle.field.specs.Firsts.{first};
+ghost use Rattle.field.specs.Rules.{convex-test, convex-rule, convex-place};
 use super::refusal::Refusal;
 
 // One place's costs by value, as an array with room for every value there can be; past the top it has 0.

@@ -6,8 +6,8 @@ ghost use Rattle.std.specs.Vec.{made};
 ghost use Rattle.theory.specs.Fields.{Of, value-costs, side-costs, total};
 ghost use Rattle.field.specs.Limits.{most-places, most-top, most-sides, most-cost, most-side-cost};
 ghost use Rattle.field.specs.Given.{picture-in, field-in};
-ghost use Rattle.field.specs.Viewed.{Row-of, field-of};
-ghost use Rattle.field.specs.Costed.{answered, picture-fits, all-fits};
+ghost use Rattle.field.specs.Viewed.{Row-of, field-of, side-of};
+ghost use Rattle.field.specs.Costed.{answered, picture-fits, one-picture, all-fits};
 use super::convex::place_costs;
 use super::refusal::Refusal;
 use super::refusal::Rooms;
@@ -66,6 +66,16 @@ impl FieldView<'_> {
         }
         Some(place_costs(self.costs, self.top, place))
     }
+
+    // The k-th side; none past the last.
+    pub fn side(&self, k: usize) -> Option<Side>
+        ensures { λ r. ⌜ Cases r (field-of (now (self .entry)) .sides ≤ k) (λ s. (k < field-of (now (self .entry)) .sides) × (side-of s ≡ field-of (now (self .entry)) .side k)) ⌝ }
+    {
+        if k >= self.sides.len() / 3 {
+            return None;
+        }
+        Some(Side::read(self.sides, k))
+    }
 }
 
 // What a picture costs, over lent numbers that nobody has looked at: the first of rules 1 to 6 that applies, or the cost.
@@ -76,7 +86,7 @@ pub fn picture_cost<'a>(
     sides: &'a [u32],
     picture: &[u32],
 ) -> Result<u64, Refusal>
-    ensures answer { λ r. ⌜ r ≡ answered (all-fits places top (now (costs .entry)) (now (sides .entry)) (now (picture .entry))) (total (field-in places top (now (costs .entry)) (now (sides .entry))) (picture-in (now (picture .entry)))) ⌝ }
+    ensures answer { λ r. ⌜ r ≡ answered (all-fits places top (now (costs .entry)) (now (sides .entry)) (one-picture (now (picture .entry))) (now (picture .entry))) (total (field-in places top (now (costs .entry)) (now (sides .entry))) (picture-in (now (picture .entry)))) ⌝ }
     ensures of { λ r. ⌜ made r (λ _. Of (field-in places top (now (costs .entry)) (now (sides .entry))) (picture-in (now (picture .entry)))) ⌝ }
 {
     examine(

@@ -13,5 +13,6 @@ pub use refusal::Refusal;
 pub use refusal::RefusalDebug;
 pub use refusal::RefusalPartialEq;
 pub use refusal::Rooms;
+pub use side::Side;
 pub use verdict::examine;
 pub use view::FieldView;

@@ -1,14 +1,15 @@
 -- What holds of fields, by their nets.
-use mathlib.Core.Path.{_≡_, refl, ap}
-use mathlib.Core.Bool.{Bool, true, false}
+use mathlib.Core.Path.{_≡_, refl, ap, subst, subst⁻¹}
+use mathlib.Core.Logic.{_⊎_, inl, inr}
+use mathlib.Core.Bool.{true, false}
 use Prim.Native.Nat.{ℕ, _+_, _*_, _-_, _/_, _%_, _<_}
 use native.Mathlib.Omega.{arith}
 use lib.Dec.{eqb}
-use Rattle.std.proofs.shelf.Tests.{eq-eqb, ne-eqb}
+use Rattle.std.proofs.shelf.Tests.{eq-eqb, ne-eqb, cases-eq}
 use Rattle.theory.specs.Sums.{sum}
 use Rattle.theory.specs.Pictures.{Picture, meet, join, Least}
-use Rattle.theory.specs.Nets.{Inside, gap, net-total, arc-costs}
-use Rattle.theory.specs.Fields.{Side, Field, Sound, Of, side-cost, side-costs, total, Cheapest, Lowest, direction, net-of}
+use Rattle.theory.specs.Nets.{Arc, Inside, gap, net-total, arc-costs}
+use Rattle.theory.specs.Fields.{Field, Sound, Of, side-cost, side-costs, total, Cheapest, Lowest, direction, net-of}
 use Rattle.theory.specs.Promises.{Both-cheapest, Steps-up, Under-cheapest, Under-lowest}
 use Rattle.theory.proofs.Sums.{sum-same, sum-pairs}
 use Rattle.theory.proofs.Lattice.{Crosses, Closed, within-closed, meet-least, join-least, under-all}
@@ -47,21 +48,39 @@ sides-by-arcs f u =
       sum-same (f .sides) (λ k. arcs (2 * k) + arcs (2 * k + 1)) (λ k. side-cost (f .side k) u) (λ k l. pair-cost f u k),
     )
 
+-- a property holds of both arcs of each side, or of each arc by its number; the one gives the other
+abbrev pub Both-arcs : Field → (ℕ → Arc → Type 0) → Type 0
+Both-arcs f P = (k : ℕ) → k < f .sides → P (2 * k) (direction true (f .side k)) × P (2 * k + 1) (direction false (f .side k))
+
+abbrev pub Each-arc : Field → (ℕ → Arc → Type 0) → Type 0
+Each-arc f P = (e : ℕ) → e < 2 * f .sides → P e (net-of f .arc e)
+
+pub each-arc : (f : Field) (P : ℕ → Arc → Type 0) → Both-arcs f P → Each-arc f P
+each-arc f P h e l = each-arc-by (cases-eq (e % 2) 0)
+  where
+    each-arc-by : (e % 2 ≡ 0) ⊎ (e % 2 ≡ 0 → ⊥) → P e (net-of f .arc e)
+    each-arc-by (inl t) =
+        let even : 2 * (e / 2) ≡ e = omega arith in
+        subst (λ d. P d (net-of f .arc d)) even (subst⁻¹ (P (2 * (e / 2))) (arc-there f (e / 2)) (h (e / 2) (omega arith) .0))
+    each-arc-by (inr t) =
+        let odd : 2 * (e / 2) + 1 ≡ e = omega arith in
+        subst (λ d. P d (net-of f .arc d)) odd (subst⁻¹ (P (2 * (e / 2) + 1)) (arc-back f (e / 2)) (h (e / 2) (omega arith) .1))
+
+pub both-arcs : (f : Field) (P : ℕ → Arc → Type 0) → Each-arc f P → Both-arcs f P
+both-arcs f P h k l =
+    (subst (P (2 * k)) (arc-there f k) (h (2 * k) (omega arith)), subst (P (2 * k + 1)) (arc-back f k) (h (2 * k + 1) (omega arith)))
+
 pub total-net : (f : Field) (u : Picture) → total f u ≡ net-total (net-of f) u
 total-net f u = omega (arith, sides-by-arcs f u)
 
-direction-inside : (b : Bool) (s : Side) (n : ℕ) → s .first < n → s .second < n → (direction b s .from < n) × (direction b s .to < n)
-direction-inside true s n p q = (p, q)
-direction-inside false s n p q = (q, p)
-
-net-inside : (f : Field) → Sound f → Inside (net-of f)
-net-inside f sound e l =
-    let both = sound .inside (e / 2) (omega arith) in
-    direction-inside (eqb (e % 2) 0) (f .side (e / 2)) (f .places) (both .0) (both .1)
+-- the net of a field whose sides join places of the field joins places of the net
+pub net-inside : (f : Field) → ((k : ℕ) → k < f .sides → (f .side k .first < f .places) × (f .side k .second < f .places)) → Inside (net-of f)
+net-inside f inside =
+    each-arc f (λ e a. (a .from < f .places) × (a .to < f .places)) (λ k l. (inside k l, (inside k l .1, inside k l .0)))
 
 field-reads : (f : Field) → Sound f → Reads (f .places) (total f)
 field-reads f sound u v h =
-    omega (arith, net-reads (net-of f) (net-inside f sound) u v h, total-net f u, total-net f v)
+    omega (arith, net-reads (net-of f) (net-inside f (sound .inside)) u v h, total-net f u, total-net f v)
 
 -- what the second of two fields that differ in costs only costs, over the first one's places and arcs
 total-over : (f g : Field) → Steps-up f g → (u : Picture) → total g u ≡ sum (f .places) (λ i. g .cost i (u i)) + arc-costs (net-of f) u

@@ -2,4 +2,8 @@ pub mod Sums
 pub mod Lattice
 pub mod Minimise
 pub mod Nets
+pub mod Certificates
+pub mod Supports
 pub mod Fields
+pub mod Sheets
+pub mod Table

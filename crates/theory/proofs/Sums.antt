@@ -1,10 +1,12 @@
 -- Laws of finite sums.
 use mathlib.Core.Path.{_≡_, refl, sym, _∙_, ap}
 use mathlib.Core.Logic.{_⊎_, inl, inr}
+use mathlib.Core.Bool.{true, false, cond}
 use Prim.Native.Nat.{ℕ, zero, suc, _+_, _*_, _≤_, _<_}
 use native.Mathlib.Omega.{arith}
 use native.Mathlib.Numerals.{add-one}
-use Rattle.std.proofs.shelf.Tests.{cases-eq}
+use lib.Dec.{eqb}
+use Rattle.std.proofs.shelf.Tests.{cases-eq, eq-eqb, ne-eqb}
 use Rattle.theory.specs.Sums.{sum}
 
 pub sum-same : (n : ℕ) (f g : ℕ → ℕ) → ((i : ℕ) → i < n → f i ≡ g i) → sum n f ≡ sum n g
@@ -36,6 +38,52 @@ sum-tight (suc n) f g h s i l =
     let below : (j : ℕ) → j < n → f j ≤ g j = λ j m. h j (omega arith) in
     let rest : sum n f ≤ sum n g = sum-le n f g below in
     sum-tight-step n f g i (cases-eq i n) l (omega arith) (sum-tight n f g below (omega arith) i)
+
+-- terms that are themselves sums
+pub sum-add : (n : ℕ) (f g : ℕ → ℕ) → sum n (λ i. f i + g i) ≡ sum n f + sum n g
+sum-add zero f g = refl
+sum-add (suc n) f g = omega (arith, sum-add n f g)
+
+pub sum-add-three : (n : ℕ) (f g h : ℕ → ℕ) → sum n (λ i. f i + g i + h i) ≡ sum n f + sum n g + sum n h
+sum-add-three n f g h = omega (arith, sum-add n (λ i. f i + g i) h, sum-add n f g)
+
+pub sum-zero : (n : ℕ) (f : ℕ → ℕ) → ((i : ℕ) → i < n → f i ≡ 0) → sum n f ≡ 0
+sum-zero zero f h = refl
+sum-zero (suc n) f h = omega (arith, h n (omega arith), sum-zero n f (λ i l. h i (omega arith)))
+
+-- a sum of which only the term at p counts
+only-here : (p a i : ℕ) (w : ℕ → ℕ) → p ≡ i → cond (eqb p i) a 0 * w i ≡ a * w p
+only-here p a i w e = let t : eqb p i ≡ true = eq-eqb p i e in rw t (rw e)
+
+only-else : (p a i : ℕ) (w : ℕ → ℕ) → (p ≡ i → ⊥) → cond (eqb p i) a 0 * w i ≡ 0
+only-else p a i w d = let t : eqb p i ≡ false = ne-eqb p i d in rw t (omega arith)
+
+sum-only-step :
+    (n p a : ℕ) (w : ℕ → ℕ) → (p ≡ n) ⊎ (p ≡ n → ⊥) → p < suc n →
+    (p < n → sum n (λ i. cond (eqb p i) a 0 * w i) ≡ a * w p) → sum (suc n) (λ i. cond (eqb p i) a 0 * w i) ≡ a * w p
+sum-only-step n p a w (inl e) l below =
+    omega (arith, only-here p a n w e, sum-zero n (λ i. cond (eqb p i) a 0 * w i) (λ i m. only-else p a i w (λ same. omega arith)))
+sum-only-step n p a w (inr d) l below = omega (arith, only-else p a n w d, below (omega arith))
+
+pub sum-only : (n p a : ℕ) (w : ℕ → ℕ) → p < n → sum n (λ i. cond (eqb p i) a 0 * w i) ≡ a * w p
+sum-only zero p a w l = omega arith
+sum-only (suc n) p a w l = sum-only-step n p a w (cases-eq p n) l (sum-only n p a w)
+
+-- amounts x e at places p e, weighed by place: place by place as one by one
+pub sum-exchange :
+    (n m : ℕ) (p x w : ℕ → ℕ) → ((e : ℕ) → e < m → p e < n) →
+    sum n (λ i. sum m (λ e. cond (eqb (p e) i) (x e) 0) * w i) ≡ sum m (λ e. x e * w (p e))
+sum-exchange n zero p x w h = sum-zero n (λ i. 0 * w i) (λ i l. omega arith)
+sum-exchange n (suc m) p x w h =
+    let one : ℕ → ℕ = λ i. cond (eqb (p m) i) (x m) 0 * w i in
+    let others : ℕ → ℕ = λ i. sum m (λ e. cond (eqb (p e) i) (x e) 0) * w i in
+    omega (
+      arith,
+      sum-same n (λ i. sum (suc m) (λ e. cond (eqb (p e) i) (x e) 0) * w i) (λ i. one i + others i) (λ i l. omega arith),
+      sum-add n one others,
+      sum-only n (p m) (x m) w (h m (omega arith)),
+      sum-exchange n m p x w (λ e l. h e (omega arith)),
+    )
 
 -- terms two by two
 pub sum-pairs : (n : ℕ) (g : ℕ → ℕ) → sum (2 * n) g ≡ sum n (λ k. g (2 * k) + g (2 * k + 1))

@@ -1,6 +1,7 @@
 use mathlib.Core.Path.{_≡_}
 use Rattle.std.specs.declared.result.Result.the-variants.{Ok}
-use Rattle.field.specs.Rules.{first, convex-place}
+use Rattle.field.specs.Firsts.{first}
+use Rattle.field.specs.Rules.{convex-place}
 use Rattle.field.proofs.convex.all_convex.Given as given
 
 abbrev pub Inv-loop-place : given.InvT-loop-place

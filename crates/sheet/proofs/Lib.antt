@@ -1,0 +1,3 @@
+pub mod Balances
+pub mod Rules
+pub mod Words

@@ -1,0 +1,41 @@
+ghost use mathlib.Core.Path.{_≡_};
+ghost use Prim.Native.Nat.{_*_, _<_, _≤_};
+ghost use lib.IntN.{pos, negℤ, _+ℤ_, _-ℤ_};
+ghost use lib.ListN.{length, getD, set};
+ghost use lib.Signed.{_≤ℤ_};
+ghost use Rattle.field.specs.Limits.{most-top};
+ghost use Rattle.sheet.specs.Balanced.{most-flow, balanced-test};
+
+// Counts at a place what flows out of it and what flows in.
+pub(super) fn count_at(balance: &mut [i64], place: usize, out: u32, into: u32)
+    requires within { ⌜ place < length (now balance) ⌝ }
+    requires low { ⌜ (negℤ (pos (2 * most-flow))) ≤ℤ getD (now balance) place (pos 0) ⌝ }
+    requires high { ⌜ getD (now balance) place (pos 0) ≤ℤ pos (2 * most-flow) ⌝ }
+    ensures { λ _. ⌜ now (balance .exit) ≡ set (now (balance .entry)) place ((getD (now (balance .entry)) place (pos 0) +ℤ pos out) -ℤ pos into) ⌝ }
+{
+    balance[place] += i64::from(out) - i64::from(into);
+}
+
+// A value and what it costs at a place.
+#[derive(Clone, Copy)]
+pub(super) struct Priced {
+    pub value: u32,
+    pub cost: u32,
+}
+
+// Whether one value is no dearer than another at a place with this balance.
+pub(super) fn no_dearer(balance: i64, here: Priced, other: Priced) -> bool
+    requires low { ⌜ (negℤ (pos most-flow)) ≤ℤ balance ⌝ }
+    requires high { ⌜ balance ≤ℤ pos most-flow ⌝ }
+    requires value { ⌜ here .value ≤ most-top ⌝ }
+    requires other { ⌜ other .value ≤ most-top ⌝ }
+    ensures { λ r. ⌜ r ≡ balanced-test balance (here .cost) (here .value) (other .cost) (other .value) ⌝ }
+{
+    let size = balance.unsigned_abs();
+    let (mine, theirs) = if balance < 0 {
+        (other.value, here.value)
+    } else {
+        (here.value, other.value)
+    };
+    u64::from(here.cost) + size * u64::from(mine) <= u64::from(other.cost) + size * u64::from(theirs)
+}

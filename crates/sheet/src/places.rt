@@ -1,0 +1,50 @@
+ghost use mathlib.Core.Path.{_≡_};
+ghost use Prim.Native.Nat.{_<_, _≤_};
+ghost use lib.ListN.{length};
+ghost use Rattle.field.specs.Firsts.{first};
+ghost use Rattle.field.specs.Given.{picture-in};
+ghost use Rattle.field.specs.Viewed.{field-of};
+ghost use Rattle.sheet.specs.Given.{flows-in};
+ghost use Rattle.sheet.specs.Balanced.{Counted};
+ghost use Rattle.sheet.specs.Words.{place-rule};
+use super::balance::Priced;
+use super::balance::no_dearer;
+use super::claim::Claim;
+use super::word::Broken;
+
+impl Claim<'_> {
+    // A value with what it costs at a place.
+    fn priced(&self, place: usize, value: usize) -> Priced
+        requires place { ⌜ place < now self .field .places ⌝ }
+        requires value { ⌜ value ≤ now self .field .top ⌝ }
+        ensures value { λ r. ⌜ r .value ≡ value ⌝ }
+        ensures cost { λ r. ⌜ r .cost ≡ field-of (now (self .entry) .field) .cost place value ⌝ }
+    {
+        Priced {
+            value: value as u32,
+            cost: self.field.costs[place * (self.field.top + 1) + value],
+        }
+    }
+
+    // The rule of each place against every value, with the balance of its flows counted.
+    pub(super) fn places_hold(&self, balance: &[i64]) -> Result<(), Broken>
+        requires room { ⌜ length (now balance) ≡ now self .field .places ⌝ }
+        requires counted { ⌜ Counted (field-of (now self .field)) (flows-in (now (now self .flows))) (field-of (now self .field) .sides) (now balance) ⌝ }
+        ensures { λ r. ⌜ r ≡ first (place-rule (field-of (now (self .entry) .field)) (picture-in (now (now (self .entry) .picture))) (flows-in (now (now (self .entry) .flows)))) (now (self .entry) .field .places) ⌝ }
+    {
+        let mut verdict = Ok(());
+        'places: for place in 0..self.field.places {
+            let here = self.priced(place, self.picture[place] as usize);
+            for value in 0..self.field.top + 1 {
+                if !no_dearer(balance[place], here, self.priced(place, value)) {
+                    verdict = Err(Broken::Place {
+                        place: place as u32,
+                        value: value as u32,
+                    });
+                    break 'places;
+                }
+            }
+        }
+        verdict
+    }
+}

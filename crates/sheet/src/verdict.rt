@@ -1,0 +1,94 @@
+ghost use mathlib.Core.Path.{_≡_};
+ghost use Prim.Native.Nat.{ℕ};
+ghost use lib.IntN.{pos};
+ghost use lib.ListN.{length, getD};
+ghost use Rattle.theory.specs.Fields.{Cheapest, total};
+ghost use Rattle.field.specs.Given.{picture-in, field-in};
+ghost use Rattle.field.specs.Viewed.{field-of};
+ghost use Rattle.sheet.specs.Given.{flows-in, claim-fits};
+ghost use Rattle.sheet.specs.Words.{rules, Judged, Said, Answer};
+use super::claim::Claim;
+use super::word::Broken;
+use super::word::Word;
+use field::FieldView;
+use field::Rooms;
+use field::examine;
+use std::alloc::Global;
+
+impl Claim<'_> {
+    // The rules of a sheet in their order.
+    fn rules_hold(&self, balance: &mut [i64]) -> Result<(), Broken>
+        requires room { ⌜ length (now balance) ≡ now self .field .places ⌝ }
+        requires blank { ⌜ ((i : ℕ) → getD (now balance) i (pos 0) ≡ pos 0) ⌝ }
+        ensures { λ r. ⌜ r ≡ rules (field-of (now (self .entry) .field)) (picture-in (now (now (self .entry) .picture))) (flows-in (now (now (self .entry) .flows))) ⌝ }
+    {
+        self.sides_hold(balance)?;
+        self.places_hold(balance)
+    }
+
+    // The word of a claim whose picture has this cost.
+    fn word(&self, heap: Global, cost: u64) -> Word
+        ensures { λ r. ⌜ Judged r (rules (field-of (now (self .entry) .field)) (picture-in (now (now (self .entry) .picture))) (flows-in (now (now (self .entry) .flows)))) cost ⌝ }
+    {
+        match vec![in heap; 0i64; self.field.places] {
+            Ok(mut balance) => match self.rules_hold(balance.as_mut_slice()) {
+                Ok(()) => Word::Cheapest(cost),
+                Err(broken) => Word::BrokenAt(broken),
+            },
+            Err(_) => Word::NoMemory,
+        }
+    }
+}
+
+// The word of lent numbers that nobody has looked at.
+fn answer<'a>(
+    heap: Global,
+    places: u64,
+    top: u64,
+    costs: &'a [u32],
+    sides: &'a [u32],
+    picture: &'a [u32],
+    flows: &'a [u32],
+) -> Word
+    ensures { λ r. ⌜ Said r (claim-fits places top (now (costs .entry)) (now (sides .entry)) (now (picture .entry)) (now (flows .entry))) (rules (field-in places top (now (costs .entry)) (now (sides .entry))) (picture-in (now (picture .entry))) (flows-in (now (flows .entry)))) (total (field-in places top (now (costs .entry)) (now (sides .entry))) (picture-in (now (picture .entry)))) ⌝ }
+{
+    let rooms = Rooms {
+        picture: Some(picture.len()),
+        flows: Some(flows.len()),
+    };
+    if let Err(refusal) = examine(places, top, costs, sides, rooms) {
+        return Word::Refused(refusal);
+    }
+    let field = FieldView {
+        places: places as usize,
+        top: top as usize,
+        costs,
+        sides,
+    };
+    match field.cost_of(picture) {
+        Ok(cost) => Claim {
+            field,
+            picture,
+            flows,
+        }.word(heap, cost),
+        Err(refusal) => Word::Refused(refusal),
+    }
+}
+
+// Whether flows are a sheet for a picture: refused by the first of rules 1 to 6 that applies, or cheapest with what
+// the picture costs, or the first side or else the first place with its first other value where the sheet's rule is
+// broken. Where it answers cheapest, no picture of the field costs less.
+pub fn check<'a>(
+    heap: Global,
+    places: u64,
+    top: u64,
+    costs: &'a [u32],
+    sides: &'a [u32],
+    picture: &'a [u32],
+    flows: &'a [u32],
+) -> Word
+    ensures answer { λ r. ⌜ Answer (claim-fits places top (now (costs .entry)) (now (sides .entry)) (now (picture .entry)) (now (flows .entry))) (field-in places top (now (costs .entry)) (now (sides .entry))) (picture-in (now (picture .entry))) (flows-in (now (flows .entry))) r ⌝ }
+    ensures cheapest { λ r. ⌜ ((cost : ℕ) → r ≡ Word.Cheapest cost → Cheapest (field-in places top (now (costs .entry)) (now (sides .entry))) (picture-in (now (picture .entry)))) ⌝ }
+{
+    answer(heap, places, top, costs, sides, picture, flows)
+}
