@@ -7,8 +7,8 @@ use Prim.Native.Nat.{ℕ, suc, _+_, _*_, _≤_, _<_}
 use native.Mathlib.Omega.{arith}
 use native.Mathlib.Numerals.{add-one}
 use lib.Dec.{leb, eqb}
-use lib.IntN.{ℤ, pos, negsuc, _+ℤ_, _-ℤ_}
-use lib.ListN.{length, getD, set, length-set}
+use lib.IntN.{ℤ, pos, negsuc, _+ℤ_}
+use lib.ListN.{length, getD, length-set}
 use lib.Seq.{getD-set-same, getD-set-other}
 use Rattle.std.proofs.shelf.Signed.{ints}
 use Rattle.std.proofs.shelf.Tests.{cases-eq, cases-lt, eq-eqb, ne-eqb, le-leb, lt-leb}
@@ -16,25 +16,22 @@ use Rattle.theory.specs.Nets.{Flows, no-dearer-test}
 use Rattle.theory.specs.Fields.{Side, Field}
 use Rattle.theory.specs.Sheets.{there, back, at-ends}
 use Rattle.field.specs.Limits.{most-price}
-use Rattle.sheet.specs.Balanced.{Counted, balanced-test}
+use Rattle.sheet.specs.Balanced.{Counted, counted-at, both-counted, balanced-test}
 
--- a list after flows are counted at a place
-abbrev pub counted-at : List ℤ → (p a b : ℕ) → List ℤ
-counted-at xs p a b = set xs p ((getD xs p (pos 0) +ℤ pos a) -ℤ pos b)
-
-counted-by : (xs : List ℤ) (p a b i : ℕ) → p < length xs → (i ≡ p) ⊎ (i ≢ p) → getD (counted-at xs p a b) i (pos 0) +ℤ pos (cond (eqb p i) b 0) ≡ getD xs i (pos 0) +ℤ pos (cond (eqb p i) a 0)
+counted-by :
+    (xs : List ℤ) (p a b i : ℕ) → p < length xs → (i ≡ p) ⊎ (i ≢ p) →
+    getD (counted-at xs p a b) i (pos 0) +ℤ pos (cond (eqb p i) b 0) ≡ getD xs i (pos 0) +ℤ pos (cond (eqb p i) a 0)
 counted-by xs p a b i l (inl e) = rw (e, eq-eqb p p refl, getD-set-same) (omega (arith, ints))
 counted-by xs p a b i l (inr d) = rw (ne-eqb p i (λ e. d (sym e)), getD-set-other)
 
--- out and into at one end of a side, and then at the other
-pub counted-twice :
-    (xs ys zs : List ℤ) (p q a b i : ℕ) → p < length xs → q < length xs → ys ≡ counted-at xs p a b → zs ≡ counted-at ys q b a →
-    getD zs i (pos 0) +ℤ pos (cond (eqb p i) b 0 + cond (eqb q i) a 0) ≡ getD xs i (pos 0) +ℤ pos (cond (eqb p i) a 0 + cond (eqb q i) b 0)
-counted-twice xs ys zs p q a b i k l e f =
-    let within : q < length ys = rw (e, length-set) l in
-    let one : getD ys i (pos 0) +ℤ pos (cond (eqb p i) b 0) ≡ getD xs i (pos 0) +ℤ pos (cond (eqb p i) a 0) = rw e (counted-by xs p a b i k (cases-eq i p)) in
-    let two : getD zs i (pos 0) +ℤ pos (cond (eqb q i) a 0) ≡ getD ys i (pos 0) +ℤ pos (cond (eqb q i) b 0) = rw f (counted-by ys q b a i within (cases-eq i q)) in
-    omega (arith, ints, one, two)
+-- the flows of a side, counted at one end and then at the other, add at each place what they have there
+both-counted-at :
+    (xs : List ℤ) (s : Side) (a b i : ℕ) → s .first < length xs → s .second < length xs →
+    getD (both-counted xs s a b) i (pos 0) +ℤ pos (at-ends s b a i) ≡ getD xs i (pos 0) +ℤ pos (at-ends s a b i)
+both-counted-at xs s a b i k l =
+    let ys : List ℤ = counted-at xs (s .first) a b in
+    let within : s .second < length ys = rw length-set l in
+    omega (arith, ints, counted-by xs (s .first) a b i k (cases-eq i (s .first)), counted-by ys (s .second) b a i within (cases-eq i (s .second)))
 
 at-most : (t : Bool) (a : ℕ) → cond t a 0 ≤ a
 at-most true a = omega arith
@@ -43,14 +40,14 @@ at-most false a = omega arith
 ends-most : (s : Side) (a b i : ℕ) → a ≤ most-price → b ≤ most-price → at-ends s a b i ≤ 2 * most-price
 ends-most s a b i h k = omega (arith, at-most (eqb (s .first) i) a, at-most (eqb (s .second) i) b)
 
--- one side more: ys is the list after its flows are counted in xs
+-- one side more
 pub counted-more :
     (f : Field) (x : Flows) (k : ℕ) (xs ys : List ℤ) (s : Side) (a b : ℕ) → s ≡ f .side k → a ≡ there x k → b ≡ back x k →
-    there x k ≤ most-price → back x k ≤ most-price →
-    ((i : ℕ) → getD ys i (pos 0) +ℤ pos (at-ends s b a i) ≡ getD xs i (pos 0) +ℤ pos (at-ends s a b i)) → Counted f x k xs → Counted f x (k + 1) ys
-counted-more f x k xs ys s a b p q r h l moved counted =
+    f .side k .first < length xs → f .side k .second < length xs → there x k ≤ most-price → back x k ≤ most-price →
+    ys ≡ both-counted xs s a b → Counted f x k xs → Counted f x (k + 1) ys
+counted-more f x k xs ys s a b p q r start end h l e counted =
     record {
-      exact = λ i. rw add-one (omega (arith, ints, rw (p, q, r) at (moved i), counted .exact i));
+      exact = λ i. rw (add-one, e, p, q, r) (omega (arith, ints, both-counted-at xs (f .side k) (there x k) (back x k) i start end, counted .exact i));
       few-out = λ i. rw add-one (omega (arith, counted .few-out i, ends-most (f .side k) (there x k) (back x k) i h l));
       few-into = λ i. rw add-one (omega (arith, counted .few-into i, ends-most (f .side k) (back x k) (there x k) i l h));
     }

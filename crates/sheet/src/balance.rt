@@ -1,19 +1,28 @@
 ghost use mathlib.Core.Path.{_≡_};
 ghost use Prim.Native.Nat.{_*_, _<_, _≤_};
 ghost use lib.IntN.{pos, negℤ, _+ℤ_, _-ℤ_};
-ghost use lib.ListN.{length, getD, set};
+ghost use lib.ListN.{length, getD};
 ghost use lib.Signed.{_≤ℤ_};
 ghost use Rattle.field.specs.Limits.{most-top};
-ghost use Rattle.sheet.specs.Balanced.{most-flow, balanced-test};
+ghost use Rattle.sheet.specs.Balanced.{most-flow, counted-at, balanced-test};
 
-// Counts at a place what flows out of it and what flows in.
+// A place's balance with what flows out of it and what flows in counted too.
+fn counted(balance: i64, out: u32, into: u32) -> i64
+    requires low { ⌜ (negℤ (pos (2 * most-flow))) ≤ℤ balance ⌝ }
+    requires high { ⌜ balance ≤ℤ pos (2 * most-flow) ⌝ }
+    ensures { λ r. ⌜ r ≡ (balance +ℤ pos out) -ℤ pos into ⌝ }
+{
+    balance + (i64::from(out) - i64::from(into))
+}
+
+// Counts at a place what flows out of it and what flows in; the other places stay as they are.
 pub(super) fn count_at(balance: &mut [i64], place: usize, out: u32, into: u32)
     requires within { ⌜ place < length (now balance) ⌝ }
     requires low { ⌜ (negℤ (pos (2 * most-flow))) ≤ℤ getD (now balance) place (pos 0) ⌝ }
     requires high { ⌜ getD (now balance) place (pos 0) ≤ℤ pos (2 * most-flow) ⌝ }
-    ensures { λ _. ⌜ now (balance .exit) ≡ set (now (balance .entry)) place ((getD (now (balance .entry)) place (pos 0) +ℤ pos out) -ℤ pos into) ⌝ }
+    ensures { λ _. ⌜ now (balance .exit) ≡ counted-at (now (balance .entry)) place out into ⌝ }
 {
-    balance[place] += i64::from(out) - i64::from(into);
+    balance[place] = counted(balance[place], out, into);
 }
 
 // A value and what it costs at a place.

@@ -1,13 +1,12 @@
 ghost use mathlib.Core.Path.{_≡_};
-ghost use Prim.Native.Nat.{ℕ, _+_, _*_, _<_, _≤_};
-ghost use lib.IntN.{pos, negℤ, _+ℤ_};
+ghost use Prim.Native.Nat.{ℕ, _<_};
+ghost use lib.IntN.{pos, negℤ};
 ghost use lib.ListN.{length, getD};
 ghost use lib.Signed.{_≤ℤ_};
-ghost use Rattle.theory.specs.Sheets.{at-ends, tight-test};
-ghost use Rattle.field.specs.Limits.{most-price};
+ghost use Rattle.theory.specs.Sheets.{tight-test};
 ghost use Rattle.field.specs.Given.{picture-in};
 ghost use Rattle.field.specs.Viewed.{side-of};
-ghost use Rattle.sheet.specs.Balanced.{most-flow};
+ghost use Rattle.sheet.specs.Balanced.{most-flow, both-counted};
 use super::balance::count_at;
 use field::Side;
 
@@ -45,7 +44,7 @@ impl Flow {
         requires end { ⌜ self .side .second < length (now balance) ⌝ }
         requires low { ⌜ ((i : ℕ) → (negℤ (pos most-flow)) ≤ℤ getD (now balance) i (pos 0)) ⌝ }
         requires high { ⌜ ((i : ℕ) → getD (now balance) i (pos 0) ≤ℤ pos most-flow) ⌝ }
-        ensures { λ _. ⌜ ((i : ℕ) → getD (now (balance .exit)) i (pos 0) +ℤ pos (at-ends (side-of (self .side)) (self .back) (self .there) i) ≡ getD (now (balance .entry)) i (pos 0) +ℤ pos (at-ends (side-of (self .side)) (self .there) (self .back) i)) ⌝ }
+        ensures { λ _. ⌜ now (balance .exit) ≡ both-counted (now (balance .entry)) (side-of (self .side)) (self .there) (self .back) ⌝ }
     {
         count_at(balance, self.side.first, self.there, self.back);
         count_at(balance, self.side.second, self.back, self.there);

@@ -1,6 +1,7 @@
 ghost use mathlib.Core.Path.{_≡_};
-ghost use Prim.Native.Nat.{_<_, _≤_};
+ghost use Prim.Native.Nat.{suc, _<_, _≤_};
 ghost use lib.ListN.{length};
+ghost use Rattle.theory.specs.Sheets.{best-at};
 ghost use Rattle.field.specs.Firsts.{first};
 ghost use Rattle.field.specs.Given.{picture-in};
 ghost use Rattle.field.specs.Viewed.{field-of};
@@ -13,6 +14,13 @@ use super::claim::Claim;
 use super::word::Broken;
 
 impl Claim<'_> {
+    // How many values a place can have.
+    fn values(&self) -> usize
+        ensures { λ r. ⌜ r ≡ suc (now (self .entry) .field .top) ⌝ }
+    {
+        self.field.top + 1
+    }
+
     // A value with what it costs at a place.
     fn priced(&self, place: usize, value: usize) -> Priced
         requires place { ⌜ place < now self .field .places ⌝ }
@@ -22,11 +30,23 @@ impl Claim<'_> {
     {
         Priced {
             value: value as u32,
-            cost: self.field.costs[place * (self.field.top + 1) + value],
+            cost: self.field.costs[place * self.values() + value],
         }
     }
 
-    // The rule of each place against every value, with the balance of its flows counted.
+    // The rule of a place against a value, with the balance of its flows counted.
+    fn value_holds(&self, balance: &[i64], place: usize, value: usize) -> bool
+        requires room { ⌜ length (now balance) ≡ now self .field .places ⌝ }
+        requires counted { ⌜ Counted (field-of (now self .field)) (flows-in (now (now self .flows))) (field-of (now self .field) .sides) (now balance) ⌝ }
+        requires place { ⌜ place < now self .field .places ⌝ }
+        requires value { ⌜ value ≤ now self .field .top ⌝ }
+        ensures { λ r. ⌜ r ≡ best-at (field-of (now (self .entry) .field)) (picture-in (now (now (self .entry) .picture))) (flows-in (now (now (self .entry) .flows))) place value ⌝ }
+    {
+        let here = self.priced(place, self.picture[place] as usize);
+        no_dearer(balance[place], here, self.priced(place, value))
+    }
+
+    // The rule of each place against every value.
     pub(super) fn places_hold(&self, balance: &[i64]) -> Result<(), Broken>
         requires room { ⌜ length (now balance) ≡ now self .field .places ⌝ }
         requires counted { ⌜ Counted (field-of (now self .field)) (flows-in (now (now self .flows))) (field-of (now self .field) .sides) (now balance) ⌝ }
@@ -34,9 +54,8 @@ impl Claim<'_> {
     {
         let mut verdict = Ok(());
         'places: for place in 0..self.field.places {
-            let here = self.priced(place, self.picture[place] as usize);
-            for value in 0..self.field.top + 1 {
-                if !no_dearer(balance[place], here, self.priced(place, value)) {
+            for value in 0..self.values() {
+                if !self.value_holds(balance, place, value) {
                     verdict = Err(Broken::Place {
                         place: place as u32,
                         value: value as u32,

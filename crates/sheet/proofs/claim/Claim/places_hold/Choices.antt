@@ -4,7 +4,7 @@ use Rattle.field.specs.Firsts.{first}
 use Rattle.field.specs.Given.{picture-in}
 use Rattle.field.specs.Viewed.{field-of}
 use Rattle.sheet.specs.Given.{flows-in}
-use Rattle.sheet.specs.Words.{place-rule, value-rule}
+use Rattle.sheet.specs.Words.{value-rule, place-rule}
 use Rattle.sheet.proofs.claim.Claim.places_hold.Given as given
 
 abbrev pub Inv-places : given.InvT-places

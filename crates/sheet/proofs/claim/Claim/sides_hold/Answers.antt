@@ -23,11 +23,13 @@ sides-again c =
     let passes : tight-at f u x (c .sides .k) ≡ true =
     side-tested f u x (c .sides .k) _ _ _ true (c .flow-flow .ensures .side) (c .flow-flow .ensures .there) (c .flow-flow .ensures .back) (c .if-not-holds .ensures tt) in
     let tight : Tight-at f u x (c .sides .k) = tight-by _ u _ _ passes in
+    let starts = c .args .self .now .field .starts (c .sides .k) (omega arith) in
+    let ends = c .args .self .now .field .ends (c .sides .k) (omega arith) in
     let price = c .args .self .now .field .priced (c .sides .k) (omega arith) in (
       c .sides .inv .0,
       first-more (side-rule f u x) (c .sides .k) (c .sides .inv .1) (must-pass _ _ passes),
       counted-more f x (c .sides .k) (c .sides .balance) (c .carry .last .balance) _ _ _ (c .flow-flow .ensures .side) (c .flow-flow .ensures .there)
-      (c .flow-flow .ensures .back) (omega (arith, tight .there-within)) (omega (arith, tight .back-within)) (c .carry .ensures) (c .sides .inv .2),
+      (c .flow-flow .ensures .back) (omega (arith, starts)) (omega (arith, ends)) (omega (arith, tight .there-within)) (omega (arith, tight .back-within)) (c .carry .ensures) (c .sides .inv .2),
     )
 
 pub returns-then-not-holds : need.returns-then-not-holds
