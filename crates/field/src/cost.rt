@@ -71,10 +71,11 @@ impl FieldView<'_> {
     pub fn side(&self, k: usize) -> Option<Side>
         ensures { λ r. ⌜ Cases r (field-of (now (self .entry)) .sides ≤ k) (λ s. (k < field-of (now (self .entry)) .sides) × (side-of s ≡ field-of (now (self .entry)) .side k)) ⌝ }
     {
-        if k >= self.sides.len() / 3 {
-            return None;
+        if k < self.sides.len() / 3 {
+            Some(Side::read(self.sides, k))
+        } else {
+            None
         }
-        Some(Side::read(self.sides, k))
     }
 }
 

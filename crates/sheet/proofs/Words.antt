@@ -19,12 +19,12 @@ use Rattle.field.specs.Rules.{Verdict, verdict}
 use Rattle.field.specs.Given.{sides-of, field-in, picture-in}
 use Rattle.field.proofs.Firsts.{must-pass, must-stop, must-hold, must-say, both-ok, both-err, first-here, first-all, first-none, first-found}
 use Rattle.field.proofs.Verdicts.{taken-by, rooms-by, sound-by, values-taken}
-use Rattle.sheet.specs.declared.word.Broken.{Broken}
-use Rattle.sheet.specs.declared.word.Broken.the-variants.{Side, Place}
-use Rattle.sheet.specs.declared.word.Word.{Word}
-use Rattle.sheet.specs.declared.word.Word.the-variants as word
+use Rattle.word.specs.declared.Broken.{Broken}
+use Rattle.word.specs.declared.Broken.the-variants.{Side, Place}
+use Rattle.word.specs.declared.Word.{Word}
+use Rattle.word.specs.declared.Word.the-variants as word
 use Rattle.sheet.specs.Given.{flows-in, both-rooms, claim-fits}
-use Rattle.sheet.specs.Words.{side-rule, value-rule, place-rule, rules, word-of, Said, First-broken, Right, Answer}
+use Rattle.sheet.specs.Words.{side-rule, value-rule, place-rule, rules, word-of, Said, First-broken, Right, Answer, Accepted}
 
 -- a test that does not fail passes
 passes : (b : Bool) → (b ≡ false → ⊥) → b ≡ true
@@ -155,13 +155,13 @@ module _ (f : Field) (u : Picture) (x : Flows) where
         only = λ w k. inl (h ∙ refused-word e w k);
       }
 
-  -- where the answer is cheapest, the numbers are taken and the flows are a sheet
-  pub answer-sheet : (t : Verdict) (r : Word) (cost : ℕ) → Answer t f u x r → r ≡ word.Cheapest cost → (t ≡ Ok tt) × Sheet f u x
-  answer-sheet t r cost a e = by (a .says)
+  -- where the checker accepts, the numbers are taken and the flows are a sheet
+  pub answer-sheet : (t : Verdict) (r : Word) → Answer t f u x r → Accepted r → (t ≡ Ok tt) × Sheet f u x
+  answer-sheet t r a accepted = by (a .says)
     where
       by : Right t f u x r ⊎ ((r ≡ word.NoMemory) × (t ≡ Ok tt)) → (t ≡ Ok tt) × Sheet f u x
-      by (inl h) = let right = subst (Right t f u x) e h in (right .0, right .1)
-      by (inr h) = let n = h .0 in absurd (let z : _≡_ {A = ℕ} 0 1 = cc in omega arith)
+      by (inl h) = let right = subst (Right t f u x) (accepted .1) h in (right .0, right .1)
+      by (inr h) = let n = h .0 in let e = accepted .1 in absurd (let z : _≡_ {A = ℕ} 0 1 = cc in omega arith)
 
 -- of lent numbers that are taken, a picture with a sheet is cheapest
 pub taken-cheapest :

@@ -9,10 +9,10 @@ use Rattle.theory.specs.Fields.{Field, total}
 use Rattle.theory.specs.Sheets.{Tight-at, Best-at, tight-at, best-at, Sheet}
 use Rattle.field.specs.Firsts.{Tried, must, and-then, first}
 use Rattle.field.specs.Rules.{Verdict}
-use Rattle.sheet.specs.declared.word.Broken.{Broken}
-use Rattle.sheet.specs.declared.word.Broken.the-variants.{Side, Place}
-use Rattle.sheet.specs.declared.word.Word.{Word}
-use Rattle.sheet.specs.declared.word.Word.the-variants.{Cheapest, BrokenAt, Refused, NoMemory}
+use Rattle.word.specs.declared.Broken.{Broken}
+use Rattle.word.specs.declared.Broken.the-variants.{Side, Place}
+use Rattle.word.specs.declared.Word.{Word}
+use Rattle.word.specs.declared.Word.the-variants.{Cheapest, BrokenAt, Refused, NoMemory}
 
 -- the rules of a sheet in the order in which they are tried: each side, then each place against each value
 abbrev pub side-rule : Field → Picture → Flows → ℕ → Tried Broken
@@ -72,3 +72,7 @@ Right t f u x NoMemory = ⊥
 pub record Answer (t : Verdict) (f : Field) (u : Picture) (x : Flows) (r : Word) : Type 0 where
   pub says : Right t f u x r ⊎ ((r ≡ NoMemory) × (t ≡ Ok tt))
   pub only : (w : Word) → Right t f u x w → (r ≡ w) ⊎ (r ≡ NoMemory)
+
+-- the checker accepts
+abbrev pub Accepted : Word → Type 0
+Accepted r = (cost : ℕ) × (r ≡ Cheapest cost)

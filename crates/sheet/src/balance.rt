@@ -46,5 +46,6 @@ pub(super) fn no_dearer(balance: i64, here: Priced, other: Priced) -> bool
     } else {
         (here.value, other.value)
     };
-    u64::from(here.cost) + size * u64::from(mine) <= u64::from(other.cost) + size * u64::from(theirs)
+    u64::from(here.cost) + size * u64::from(mine)
+        <= u64::from(other.cost) + size * u64::from(theirs)
 }

@@ -11,7 +11,7 @@ ghost use Rattle.sheet.specs.Words.{place-rule};
 use super::balance::Priced;
 use super::balance::no_dearer;
 use super::claim::Claim;
-use super::word::Broken;
+use word::Broken;
 
 impl Claim<'_> {
     // How many values a place can have.

@@ -12,7 +12,7 @@ ghost use Rattle.sheet.specs.Balanced.{Counted};
 ghost use Rattle.sheet.specs.Words.{side-rule};
 use super::claim::Claim;
 use super::flow::Flow;
-use super::word::Broken;
+use word::Broken;
 
 impl Claim<'_> {
     // The k-th side with its flows.

@@ -6,14 +6,14 @@ ghost use Rattle.theory.specs.Fields.{Cheapest, total};
 ghost use Rattle.field.specs.Given.{picture-in, field-in};
 ghost use Rattle.field.specs.Viewed.{field-of};
 ghost use Rattle.sheet.specs.Given.{flows-in, claim-fits};
-ghost use Rattle.sheet.specs.Words.{rules, Judged, Said, Answer};
+ghost use Rattle.sheet.specs.Words.{rules, word-of, Judged, Said, Answer, Accepted};
 use super::claim::Claim;
-use super::word::Broken;
-use super::word::Word;
 use field::FieldView;
 use field::Rooms;
 use field::examine;
 use std::alloc::Global;
+use word::Broken;
+use word::Word;
 
 impl Claim<'_> {
     // The rules of a sheet in their order.
@@ -26,15 +26,24 @@ impl Claim<'_> {
         self.places_hold(balance)
     }
 
-    // The word of a claim whose picture has this cost.
-    fn word(&self, heap: Global, cost: u64) -> Word
+    // The word of a claim whose picture has this cost, with a zero lent for each place.
+    fn word(&self, balance: &mut [i64], cost: u64) -> Word
+        requires room { ⌜ length (now balance) ≡ now self .field .places ⌝ }
+        requires blank { ⌜ ((i : ℕ) → getD (now balance) i (pos 0) ≡ pos 0) ⌝ }
+        ensures { λ r. ⌜ r ≡ word-of (rules (field-of (now (self .entry) .field)) (picture-in (now (now (self .entry) .picture))) (flows-in (now (now (self .entry) .flows)))) cost ⌝ }
+    {
+        match self.rules_hold(balance) {
+            Ok(()) => Word::Cheapest(cost),
+            Err(broken) => Word::BrokenAt(broken),
+        }
+    }
+
+    // The same with zeros of its own, where there is memory for them.
+    fn word_from(&self, heap: Global, cost: u64) -> Word
         ensures { λ r. ⌜ Judged r (rules (field-of (now (self .entry) .field)) (picture-in (now (now (self .entry) .picture))) (flows-in (now (now (self .entry) .flows)))) cost ⌝ }
     {
         match vec![in heap; 0i64; self.field.places] {
-            Ok(mut balance) => match self.rules_hold(balance.as_mut_slice()) {
-                Ok(()) => Word::Cheapest(cost),
-                Err(broken) => Word::BrokenAt(broken),
-            },
+            Ok(mut balance) => self.word(balance.as_mut_slice(), cost),
             Err(_) => Word::NoMemory,
         }
     }
@@ -70,7 +79,7 @@ fn answer<'a>(
             field,
             picture,
             flows,
-        }.word(heap, cost),
+        }.word_from(heap, cost),
         Err(refusal) => Word::Refused(refusal),
     }
 }
@@ -88,7 +97,7 @@ pub fn check<'a>(
     flows: &'a [u32],
 ) -> Word
     ensures answer { λ r. ⌜ Answer (claim-fits places top (now (costs .entry)) (now (sides .entry)) (now (picture .entry)) (now (flows .entry))) (field-in places top (now (costs .entry)) (now (sides .entry))) (picture-in (now (picture .entry))) (flows-in (now (flows .entry))) r ⌝ }
-    ensures cheapest { λ r. ⌜ ((cost : ℕ) → r ≡ Word.Cheapest cost → Cheapest (field-in places top (now (costs .entry)) (now (sides .entry))) (picture-in (now (picture .entry)))) ⌝ }
+    ensures cheapest { λ r. ⌜ (Accepted r → Cheapest (field-in places top (now (costs .entry)) (now (sides .entry))) (picture-in (now (picture .entry)))) ⌝ }
 {
     answer(heap, places, top, costs, sides, picture, flows)
 }

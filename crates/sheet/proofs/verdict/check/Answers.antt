@@ -19,7 +19,7 @@ returns c =
     record {
       answer = answer;
       cheapest =
-          λ cost e.
-          let s = answer-sheet f u x t (c .answer .result) cost answer e in
+          λ accepted.
+          let s = answer-sheet f u x t (c .answer .result) answer accepted in
           taken-cheapest (a .places) (a .top) (a .costs .now) (a .sides .now) (a .picture .now) (a .flows .now) (s .0) (s .1);
     }

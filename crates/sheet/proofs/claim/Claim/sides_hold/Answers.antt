@@ -29,7 +29,7 @@ sides-again c =
       c .sides .inv .0,
       first-more (side-rule f u x) (c .sides .k) (c .sides .inv .1) (must-pass _ _ passes),
       counted-more f x (c .sides .k) (c .sides .balance) (c .carry .last .balance) _ _ _ (c .flow-flow .ensures .side) (c .flow-flow .ensures .there)
-      (c .flow-flow .ensures .back) (omega (arith, starts)) (omega (arith, ends)) (omega (arith, tight .there-within)) (omega (arith, tight .back-within)) (c .carry .ensures) (c .sides .inv .2),
+          (c .flow-flow .ensures .back) (omega (arith, starts)) (omega (arith, ends)) (omega (arith, tight .there-within)) (omega (arith, tight .back-within)) (c .carry .ensures) (c .sides .inv .2),
     )
 
 pub returns-then-not-holds : need.returns-then-not-holds

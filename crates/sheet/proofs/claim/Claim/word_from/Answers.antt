@@ -3,10 +3,10 @@ use lib.IntN.{ℤ, pos}
 use lib.ListN.{length, getD, replicate}
 use borrow.Author.Needs.{needs}
 use Rattle.field.proofs.Rows.{same-everywhere}
-use Rattle.sheet.proofs.claim.Claim.word.Needs as need
+use Rattle.sheet.proofs.claim.Claim.word_from.Needs as need
 
-pub rules-hold-requires : need.rules-hold-requires
-rules-hold-requires c κs =
+pub word-requires : need.word-requires
+word-requires c κs =
     let zeros : c .as-mut-slice .result .now ≡ replicate (c .args .self .now .field .places) (pos 0) = cc (c .in-Ok .ensures tt .exact (λ y e. e)) in
     record {
       room = search needs;

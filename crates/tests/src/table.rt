@@ -4,6 +4,9 @@ use field::picture_cost;
 use std::alloc::AllocError;
 use std::alloc::Global;
 use std::test::*;
+use word::Word;
+use word::WordDebug;
+use word::WordPartialEq;
 
 // How a value's cost grows with its distance from the measured value.
 #[derive(Clone, Copy)]
@@ -12,7 +15,7 @@ enum Kind {
     Square,
 }
 
-// Places in a row with one side between neighbours, and a picture of them with what it costs.
+// Places in a row with one side between neighbours, a cheapest picture of them, a sheet for it, and what it costs.
 #[derive(Clone, Copy)]
 struct Row {
     measured: &'static [u32],
@@ -20,16 +23,19 @@ struct Row {
     price: u32,
     kind: Kind,
     picture: &'static [u32],
+    flows: &'static [u32],
     cost: u64,
 }
 
-const ROWS: [Row; 11] = [
+// Rows that differ in the picture alone have one sheet: it does for every cheapest picture.
+const ROWS: [Row; 13] = [
     Row {
         measured: &[0, 0, 5, 0, 0],
         top: 5,
         price: 1,
         kind: Kind::Distance,
         picture: &[0, 0, 0, 0, 0],
+        flows: &[0, 0, 0, 1, 0, 0, 0, 0],
         cost: 5,
     },
     Row {
@@ -38,6 +44,7 @@ const ROWS: [Row; 11] = [
         price: 1,
         kind: Kind::Square,
         picture: &[0, 0, 4, 0, 0],
+        flows: &[0, 0, 0, 1, 1, 0, 0, 0],
         cost: 9,
     },
     Row {
@@ -46,6 +53,7 @@ const ROWS: [Row; 11] = [
         price: 1,
         kind: Kind::Distance,
         picture: &[0, 5, 5, 5, 0],
+        flows: &[0, 1, 0, 1, 0, 0, 1, 0],
         cost: 10,
     },
     Row {
@@ -54,6 +62,7 @@ const ROWS: [Row; 11] = [
         price: 1,
         kind: Kind::Distance,
         picture: &[5, 5, 5, 5, 5],
+        flows: &[0, 1, 0, 1, 0, 0, 1, 0],
         cost: 10,
     },
     Row {
@@ -62,6 +71,7 @@ const ROWS: [Row; 11] = [
         price: 1,
         kind: Kind::Distance,
         picture: &[1, 2, 2, 3, 3],
+        flows: &[0, 1, 0, 0, 0, 1, 0, 0],
         cost: 6,
     },
     Row {
@@ -70,6 +80,7 @@ const ROWS: [Row; 11] = [
         price: 2,
         kind: Kind::Square,
         picture: &[2, 3, 3, 3, 3],
+        flows: &[0, 2, 0, 0, 0, 2, 1, 0],
         cost: 9,
     },
     Row {
@@ -78,6 +89,7 @@ const ROWS: [Row; 11] = [
         price: 1,
         kind: Kind::Distance,
         picture: &[0, 0],
+        flows: &[0, 1],
         cost: 3,
     },
     Row {
@@ -86,6 +98,7 @@ const ROWS: [Row; 11] = [
         price: 1,
         kind: Kind::Distance,
         picture: &[0, 3],
+        flows: &[0, 1],
         cost: 3,
     },
     Row {
@@ -94,6 +107,7 @@ const ROWS: [Row; 11] = [
         price: 1,
         kind: Kind::Distance,
         picture: &[3, 3],
+        flows: &[0, 1],
         cost: 3,
     },
     Row {
@@ -102,6 +116,7 @@ const ROWS: [Row; 11] = [
         price: 3,
         kind: Kind::Square,
         picture: &[1, 1],
+        flows: &[0, 3],
         cost: 5,
     },
     Row {
@@ -110,7 +125,26 @@ const ROWS: [Row; 11] = [
         price: 5,
         kind: Kind::Distance,
         picture: &[2, 2, 2],
+        flows: &[0, 0, 0, 1],
         cost: 4,
+    },
+    Row {
+        measured: &[1, 4, 2, 5, 3],
+        top: 5,
+        price: 1,
+        kind: Kind::Distance,
+        picture: &[3, 3, 3, 3, 3],
+        flows: &[0, 1, 0, 0, 0, 1, 0, 0],
+        cost: 6,
+    },
+    Row {
+        measured: &[1, 4, 2, 5, 3],
+        top: 5,
+        price: 2,
+        kind: Kind::Square,
+        picture: &[2, 3, 3, 4, 4],
+        flows: &[0, 2, 0, 0, 0, 2, 1, 0],
+        cost: 9,
     },
 ];
 
@@ -148,24 +182,25 @@ impl Row {
     }
 
     fn holds(&self, heap: Global) -> Result<(), Fail> {
-        let costs = self.costs(heap)?;
-        let sides = self.sides(heap)?;
+        let lent = self.costs(heap)?;
+        let joined = self.sides(heap)?;
+        let costs = lent.as_slice();
+        let sides = joined.as_slice();
         let places = self.measured.len() as u64;
+        let top = u64::from(self.top);
         check_eq(
-            picture_cost(
-                places,
-                u64::from(self.top),
-                costs.as_slice(),
-                sides.as_slice(),
-                self.picture,
-            ),
+            picture_cost(places, top, costs, sides, self.picture),
             Ok(self.cost),
+        )?;
+        check_eq(
+            sheet::check(heap, places, top, costs, sides, self.picture, self.flows),
+            Word::Cheapest(self.cost),
         )
     }
 }
 
 #[test]
-fn costs_of_known_pictures(rt: LibcRuntime) -> Result<(), Fail> {
+fn known_pictures_and_sheets(rt: LibcRuntime) -> Result<(), Fail> {
     for row in &ROWS {
         row.holds(rt.alloc())?;
     }

@@ -1,3 +1,4 @@
+// What the checker answers. A crate of its own, since the derived comparisons are dear to prove and never change.
 use field::Refusal;
 use field::RefusalDebug;
 use field::RefusalPartialEq;
