@@ -1,3 +1,4 @@
 pub mod Given
+pub mod Claimed
 pub mod Balanced
 pub mod Words

@@ -3,9 +3,7 @@ ghost use Prim.Native.Nat.{suc, _<_, _≤_};
 ghost use lib.ListN.{length};
 ghost use Rattle.theory.specs.Sheets.{best-at};
 ghost use Rattle.field.specs.Firsts.{first};
-ghost use Rattle.field.specs.Given.{picture-in};
-ghost use Rattle.field.specs.Viewed.{field-of};
-ghost use Rattle.sheet.specs.Given.{flows-in};
+ghost use Rattle.sheet.specs.Claimed.{claim-field, claim-picture, claim-flows};
 ghost use Rattle.sheet.specs.Balanced.{Counted};
 ghost use Rattle.sheet.specs.Words.{place-rule};
 use super::balance::Priced;
@@ -26,7 +24,7 @@ impl Claim<'_> {
         requires place { ⌜ place < now self .field .places ⌝ }
         requires value { ⌜ value ≤ now self .field .top ⌝ }
         ensures value { λ r. ⌜ r .value ≡ value ⌝ }
-        ensures cost { λ r. ⌜ r .cost ≡ field-of (now (self .entry) .field) .cost place value ⌝ }
+        ensures cost { λ r. ⌜ r .cost ≡ claim-field (now (self .entry)) .cost place value ⌝ }
     {
         Priced {
             value: value as u32,
@@ -37,10 +35,10 @@ impl Claim<'_> {
     // The rule of a place against a value, with the balance of its flows counted.
     fn value_holds(&self, balance: &[i64], place: usize, value: usize) -> bool
         requires room { ⌜ length (now balance) ≡ now self .field .places ⌝ }
-        requires counted { ⌜ Counted (field-of (now self .field)) (flows-in (now (now self .flows))) (field-of (now self .field) .sides) (now balance) ⌝ }
+        requires counted { ⌜ Counted (claim-field (now self)) (claim-flows (now self)) (claim-field (now self) .sides) (now balance) ⌝ }
         requires place { ⌜ place < now self .field .places ⌝ }
         requires value { ⌜ value ≤ now self .field .top ⌝ }
-        ensures { λ r. ⌜ r ≡ best-at (field-of (now (self .entry) .field)) (picture-in (now (now (self .entry) .picture))) (flows-in (now (now (self .entry) .flows))) place value ⌝ }
+        ensures { λ r. ⌜ r ≡ best-at (claim-field (now (self .entry))) (claim-picture (now (self .entry))) (claim-flows (now (self .entry))) place value ⌝ }
     {
         let here = self.priced(place, self.picture[place] as usize);
         no_dearer(balance[place], here, self.priced(place, value))
@@ -49,8 +47,8 @@ impl Claim<'_> {
     // The rule of each place against every value.
     pub(super) fn places_hold(&self, balance: &[i64]) -> Result<(), Broken>
         requires room { ⌜ length (now balance) ≡ now self .field .places ⌝ }
-        requires counted { ⌜ Counted (field-of (now self .field)) (flows-in (now (now self .flows))) (field-of (now self .field) .sides) (now balance) ⌝ }
-        ensures { λ r. ⌜ r ≡ first (place-rule (field-of (now (self .entry) .field)) (picture-in (now (now (self .entry) .picture))) (flows-in (now (now (self .entry) .flows)))) (now (self .entry) .field .places) ⌝ }
+        requires counted { ⌜ Counted (claim-field (now self)) (claim-flows (now self)) (claim-field (now self) .sides) (now balance) ⌝ }
+        ensures { λ r. ⌜ r ≡ first (place-rule (claim-field (now (self .entry))) (claim-picture (now (self .entry))) (claim-flows (now (self .entry)))) (now (self .entry) .field .places) ⌝ }
     {
         let mut verdict = Ok(());
         'places: for place in 0..self.field.places {

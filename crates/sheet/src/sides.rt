@@ -5,9 +5,8 @@ ghost use lib.ListN.{length, getD};
 ghost use Rattle.std.specs.Vec.{made};
 ghost use Rattle.theory.specs.Sheets.{there, back};
 ghost use Rattle.field.specs.Firsts.{first};
-ghost use Rattle.field.specs.Given.{picture-in};
-ghost use Rattle.field.specs.Viewed.{field-of, side-of};
-ghost use Rattle.sheet.specs.Given.{flows-in};
+ghost use Rattle.field.specs.Viewed.{side-of};
+ghost use Rattle.sheet.specs.Claimed.{claim-field, claim-picture, claim-flows};
 ghost use Rattle.sheet.specs.Balanced.{Counted};
 ghost use Rattle.sheet.specs.Words.{side-rule};
 use super::claim::Claim;
@@ -17,10 +16,10 @@ use word::Broken;
 impl Claim<'_> {
     // The k-th side with its flows.
     fn flow(&self, k: usize) -> Flow
-        requires { ⌜ k < field-of (now self .field) .sides ⌝ }
-        ensures side { λ r. ⌜ side-of (r .side) ≡ field-of (now (self .entry) .field) .side k ⌝ }
-        ensures there { λ r. ⌜ r .there ≡ there (flows-in (now (now (self .entry) .flows))) k ⌝ }
-        ensures back { λ r. ⌜ r .back ≡ back (flows-in (now (now (self .entry) .flows))) k ⌝ }
+        requires { ⌜ k < claim-field (now self) .sides ⌝ }
+        ensures side { λ r. ⌜ side-of (r .side) ≡ claim-field (now (self .entry)) .side k ⌝ }
+        ensures there { λ r. ⌜ r .there ≡ there (claim-flows (now (self .entry))) k ⌝ }
+        ensures back { λ r. ⌜ r .back ≡ back (claim-flows (now (self .entry))) k ⌝ }
     {
         Flow {
             side: self.field.side(k).unwrap(),
@@ -33,8 +32,8 @@ impl Claim<'_> {
     pub(super) fn sides_hold(&self, balance: &mut [i64]) -> Result<(), Broken>
         requires room { ⌜ length (now balance) ≡ now self .field .places ⌝ }
         requires blank { ⌜ ((i : ℕ) → getD (now balance) i (pos 0) ≡ pos 0) ⌝ }
-        ensures answer { λ r. ⌜ r ≡ first (side-rule (field-of (now (self .entry) .field)) (picture-in (now (now (self .entry) .picture))) (flows-in (now (now (self .entry) .flows)))) (field-of (now (self .entry) .field) .sides) ⌝ }
-        ensures counted { λ r. ⌜ made r (λ _. Counted (field-of (now (self .entry) .field)) (flows-in (now (now (self .entry) .flows))) (field-of (now (self .entry) .field) .sides) (now (balance .exit))) ⌝ }
+        ensures answer { λ r. ⌜ r ≡ first (side-rule (claim-field (now (self .entry))) (claim-picture (now (self .entry))) (claim-flows (now (self .entry)))) (claim-field (now (self .entry)) .sides) ⌝ }
+        ensures counted { λ r. ⌜ made r (λ _. Counted (claim-field (now (self .entry))) (claim-flows (now (self .entry))) (claim-field (now (self .entry)) .sides) (now (balance .exit))) ⌝ }
     {
         let mut verdict = Ok(());
         'sides: for k in 0..self.field.sides.len() / 3 {

@@ -4,8 +4,8 @@ ghost use lib.IntN.{pos};
 ghost use lib.ListN.{length, getD};
 ghost use Rattle.theory.specs.Fields.{Cheapest, total};
 ghost use Rattle.field.specs.Given.{picture-in, field-in};
-ghost use Rattle.field.specs.Viewed.{field-of};
 ghost use Rattle.sheet.specs.Given.{flows-in, claim-fits};
+ghost use Rattle.sheet.specs.Claimed.{claim-field, claim-picture, claim-flows};
 ghost use Rattle.sheet.specs.Words.{rules, word-of, Judged, Said, Answer, Accepted};
 use super::claim::Claim;
 use field::FieldView;
@@ -20,7 +20,7 @@ impl Claim<'_> {
     fn rules_hold(&self, balance: &mut [i64]) -> Result<(), Broken>
         requires room { ⌜ length (now balance) ≡ now self .field .places ⌝ }
         requires blank { ⌜ ((i : ℕ) → getD (now balance) i (pos 0) ≡ pos 0) ⌝ }
-        ensures { λ r. ⌜ r ≡ rules (field-of (now (self .entry) .field)) (picture-in (now (now (self .entry) .picture))) (flows-in (now (now (self .entry) .flows))) ⌝ }
+        ensures { λ r. ⌜ r ≡ rules (claim-field (now (self .entry))) (claim-picture (now (self .entry))) (claim-flows (now (self .entry))) ⌝ }
     {
         self.sides_hold(balance)?;
         self.places_hold(balance)
@@ -30,7 +30,7 @@ impl Claim<'_> {
     fn word(&self, balance: &mut [i64], cost: u64) -> Word
         requires room { ⌜ length (now balance) ≡ now self .field .places ⌝ }
         requires blank { ⌜ ((i : ℕ) → getD (now balance) i (pos 0) ≡ pos 0) ⌝ }
-        ensures { λ r. ⌜ r ≡ word-of (rules (field-of (now (self .entry) .field)) (picture-in (now (now (self .entry) .picture))) (flows-in (now (now (self .entry) .flows)))) cost ⌝ }
+        ensures { λ r. ⌜ r ≡ word-of (rules (claim-field (now (self .entry))) (claim-picture (now (self .entry))) (claim-flows (now (self .entry)))) cost ⌝ }
     {
         match self.rules_hold(balance) {
             Ok(()) => Word::Cheapest(cost),
@@ -40,7 +40,7 @@ impl Claim<'_> {
 
     // The same with zeros of its own, where there is memory for them.
     fn word_from(&self, heap: Global, cost: u64) -> Word
-        ensures { λ r. ⌜ Judged r (rules (field-of (now (self .entry) .field)) (picture-in (now (now (self .entry) .picture))) (flows-in (now (now (self .entry) .flows)))) cost ⌝ }
+        ensures { λ r. ⌜ Judged r (rules (claim-field (now (self .entry))) (claim-picture (now (self .entry))) (claim-flows (now (self .entry)))) cost ⌝ }
     {
         match vec![in heap; 0i64; self.field.places] {
             Ok(mut balance) => self.word(balance.as_mut_slice(), cost),

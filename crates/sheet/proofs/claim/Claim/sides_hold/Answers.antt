@@ -6,10 +6,8 @@ use Rattle.theory.specs.Sheets.{Tight-at, tight-at}
 use Rattle.theory.specs.Fields.{Field}
 use Rattle.theory.specs.Pictures.{Picture}
 use Rattle.theory.proofs.Sheets.{tight-by}
-use Rattle.field.specs.Given.{picture-in}
-use Rattle.field.specs.Viewed.{field-of}
 use Rattle.field.proofs.Firsts.{first-more, first-here, must-pass, must-stop}
-use Rattle.sheet.specs.Given.{flows-in}
+use Rattle.sheet.specs.Claimed.{claim-field, claim-picture, claim-flows}
 use Rattle.sheet.specs.Words.{side-rule}
 use Rattle.sheet.proofs.Balances.{counted-more}
 use Rattle.sheet.proofs.Rules.{side-tested}
@@ -17,9 +15,9 @@ use Rattle.sheet.proofs.claim.Claim.sides_hold.Needs as need
 
 pub sides-again : need.sides-again
 sides-again c =
-    let f : Field = field-of (c .args .self .now .field) in
-    let u : Picture = picture-in (c .args .self .now .picture .now) in
-    let x : Flows = flows-in (c .args .self .now .flows .now) in
+    let f : Field = claim-field (c .args .self .now) in
+    let u : Picture = claim-picture (c .args .self .now) in
+    let x : Flows = claim-flows (c .args .self .now) in
     let passes : tight-at f u x (c .sides .k) ≡ true =
     side-tested f u x (c .sides .k) _ _ _ true (c .flow-flow .ensures .side) (c .flow-flow .ensures .there) (c .flow-flow .ensures .back) (c .if-not-holds .ensures tt) in
     let tight : Tight-at f u x (c .sides .k) = tight-by _ u _ _ passes in
@@ -34,9 +32,9 @@ sides-again c =
 
 pub returns-then-not-holds : need.returns-then-not-holds
 returns-then-not-holds c =
-    let f : Field = field-of (c .args .self .now .field) in
-    let u : Picture = picture-in (c .args .self .now .picture .now) in
-    let x : Flows = flows-in (c .args .self .now .flows .now) in
+    let f : Field = claim-field (c .args .self .now) in
+    let u : Picture = claim-picture (c .args .self .now) in
+    let x : Flows = claim-flows (c .args .self .now) in
     let stops : tight-at f u x (c .sides .k) ≡ false =
     side-tested f u x (c .sides .k) _ _ _ false (c .flow-flow .ensures .side) (c .flow-flow .ensures .there) (c .flow-flow .ensures .back) (c .if-not-holds .ensures tt) in
     record {
