@@ -35,15 +35,15 @@ abbrev pub firm : Net → Picture → Flows → ℕ → Bool
 firm net u x i = every (u i) (cheaper-test net u x i)
 
 -- arc e holds up place i: it is below its price, and comes from a place that is held up and high enough
-abbrev pub prop : Net → Picture → Flows → (up : ℕ → Bool) → (i e : ℕ) → Bool
-prop net u x up i e =
+abbrev pub holds-up : Net → Picture → Flows → (up : ℕ → Bool) → (i e : ℕ) → Bool
+holds-up net u x up i e =
     eqb (net .arc e .to) i &&
     (leb (u i + net .arc e .offset) (u (net .arc e .from)) && (ltb (x e) (net .arc e .price) && up (net .arc e .from)))
 
 -- a place is held up if it is firm, or by a firm place along at most n arcs
 abbrev pub held : Net → Picture → Flows → ℕ → ℕ → Bool
 held net u x zero i = firm net u x i
-held net u x (suc n) i = held net u x n i || some (net .arcs) (prop net u x (held net u x n) i)
+held net u x (suc n) i = held net u x n i || some (net .arcs) (holds-up net u x (held net u x n) i)
 
 -- an arc that is full where it is charged, and is below its price, is not charged
 not-charged : (y p a b o : ℕ) → (b + o < a → y ≡ p) → y < p → (b + o < a) ⊎ (a ≤ b + o) → a ≤ b + o
@@ -64,8 +64,8 @@ module _ (net : Net) (u v : Picture) (x : Flows) (inside : Inside net) (p : With
       absurd (omega arith)
   firm-under-by i l h (inr m) = m
 
-  prop-under : (up : ℕ → Bool) → Under up → (i e : ℕ) → e < net .arcs → prop net u x up i e ≡ true → u i ≤ v i
-  prop-under up under i e l h =
+  holds-up-under : (up : ℕ → Bool) → Under up → (i e : ℕ) → e < net .arcs → holds-up net u x up i e ≡ true → u i ≤ v i
+  holds-up-under up under i e l h =
       let a = net .arc e in
       let one = and-parts (eqb (a .to) i) _ h in
       let two = and-parts (leb (u i + a .offset) (u (a .from))) _ (one .1) in
@@ -80,14 +80,14 @@ module _ (net : Net) (u v : Picture) (x : Flows) (inside : Inside net) (p : With
       )
 
   held-step :
-      (up : ℕ → Bool) → Under up → (i : ℕ) → i < net .places → (up i ≡ true) ⊎ (some (net .arcs) (prop net u x up i) ≡ true) → u i ≤ v i
+      (up : ℕ → Bool) → Under up → (i : ℕ) → i < net .places → (up i ≡ true) ⊎ (some (net .arcs) (holds-up net u x up i) ≡ true) → u i ≤ v i
   held-step up under i l (inl h) = under i l h
   held-step up under i l (inr h) =
-      let found = some-true (net .arcs) (prop net u x up i) h in
-      prop-under up under i (found .0) (found .1) (found .2)
+      let found = some-true (net .arcs) (holds-up net u x up i) h in
+      holds-up-under up under i (found .0) (found .1) (found .2)
 
   -- no place that is held up in u is lower in v
   pub held-under : (n : ℕ) → Under (held net u x n)
   held-under zero i l h = firm-under-by i l h (cases-lt (v i) (u i))
   held-under (suc n) i l h =
-      held-step (held net u x n) (held-under n) i l (or-cases (held net u x n i) (some (net .arcs) (prop net u x (held net u x n) i)) h)
+      held-step (held net u x n) (held-under n) i l (or-cases (held net u x n i) (some (net .arcs) (holds-up net u x (held net u x n) i)) h)
