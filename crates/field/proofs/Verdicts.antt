@@ -14,7 +14,7 @@ use Rattle.std.proofs.shelf.Lists.{getD-past}
 use Rattle.std.proofs.shelf.Tests.{cases-lt, leb-true, ltb-true, eqb-true, and-parts, le-leb, lt-ltb, and-from, or-right}
 use Rattle.std.proofs.shelf.Ways.{tells}
 use Rattle.field.specs.Limits.{most-top, most-cost, most-price}
-use Rattle.field.specs.declared.refusal.Rooms.{Rooms}
+use Rattle.field.specs.declared.rooms.Rooms.{Rooms}
 use Rattle.theory.specs.Fields.{Sound}
 use Rattle.field.specs.Given.{cost-in, side-in, sides-of, field-in}
 use Rattle.field.specs.Firsts.{first}

@@ -6,9 +6,9 @@ use lib.ListN.{length}
 use Rattle.std.specs.declared.option.Option.the-variants.{Some, None}
 use Rattle.std.specs.declared.result.Result.{Result}
 use Rattle.std.specs.declared.result.Result.the-variants.{Ok, Err}
-use Rattle.field.specs.declared.refusal.Refusal.{Refusal}
-use Rattle.field.specs.declared.refusal.Refusal.the-variants.{PictureLength}
-use Rattle.field.specs.declared.refusal.Rooms.{Rooms}
+use Rattle.word.specs.declared.refusal.Refusal.{Refusal}
+use Rattle.word.specs.declared.refusal.Refusal.the-variants.{PictureLength}
+use Rattle.field.specs.declared.rooms.Rooms.{Rooms}
 use Rattle.field.specs.Firsts.{must, and-then}
 use Rattle.field.specs.Rules.{Verdict, verdict, values-fit}
 

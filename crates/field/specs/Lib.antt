@@ -1,5 +1,4 @@
 pub mod Limits
-pub mod Numbered
 pub mod Given
 pub mod Firsts
 pub mod Rules

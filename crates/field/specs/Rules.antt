@@ -7,9 +7,9 @@ use lib.ListN.{length, getD}
 use Rattle.std.specs.declared.option.Option.{Option}
 use Rattle.std.specs.declared.option.Option.the-variants.{Some, None}
 use Rattle.theory.specs.Fields.{Side}
-use Rattle.field.specs.declared.refusal.Refusal.{Refusal}
-use Rattle.field.specs.declared.refusal.Refusal.the-variants.{Places, Top, CostsLength, SidesLength, PictureLength, FlowsLength, CostTooHigh, SideOutOfRange, NotConvex, ValueTooHigh}
-use Rattle.field.specs.declared.refusal.Rooms.{Rooms}
+use Rattle.word.specs.declared.refusal.Refusal.{Refusal}
+use Rattle.word.specs.declared.refusal.Refusal.the-variants.{Places, Top, CostsLength, SidesLength, PictureLength, FlowsLength, CostTooHigh, SideOutOfRange, NotConvex, ValueTooHigh}
+use Rattle.field.specs.declared.rooms.Rooms.{Rooms}
 use Rattle.field.specs.Limits.{most-places, most-top, most-sides, most-cost, most-price}
 use Rattle.field.specs.Given.{cost-in, side-in, sides-of}
 use Rattle.field.specs.Firsts.{Tried, must, and-then, first}

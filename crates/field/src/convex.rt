@@ -5,7 +5,7 @@ ghost use Rattle.field.specs.Limits.{most-places, most-top};
 ghost use Rattle.field.specs.Given.{cost-in};
 ghost use Rattle.field.specs.Firsts.{first};
 ghost use Rattle.field.specs.Rules.{convex-test, convex-rule, convex-place};
-use super::refusal::Refusal;
+use word::Refusal;
 
 // One place's costs by value, as an array with room for every value there can be; past the top it has 0.
 pub(super) fn place_costs(costs: &[u32], top: usize, place: usize) -> [u32; 256]

@@ -9,12 +9,12 @@ ghost use Rattle.field.specs.Given.{picture-in, field-in};
 ghost use Rattle.field.specs.Viewed.{Row-of, field-of, side-of};
 ghost use Rattle.field.specs.Costed.{answered, picture-fits, one-picture, all-fits};
 use super::convex::place_costs;
-use super::refusal::Refusal;
-use super::refusal::Rooms;
+use super::rooms::Rooms;
 use super::rules::values_fit;
 use super::side::Side;
 use super::verdict::examine;
 use super::view::FieldView;
+use word::Refusal;
 
 impl FieldView<'_> {
     // What the values of a picture cost at their places.

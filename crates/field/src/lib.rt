@@ -2,17 +2,14 @@
 mod convex;
 mod cost;
 mod limits;
-mod refusal;
+mod rooms;
 mod rules;
 mod side;
 mod verdict;
 mod view;
 
 pub use cost::picture_cost;
-pub use refusal::Refusal;
-pub use refusal::RefusalDebug;
-pub use refusal::RefusalPartialEq;
-pub use refusal::Rooms;
+pub use rooms::Rooms;
 pub use side::Side;
 pub use verdict::examine;
 pub use view::FieldView;

@@ -8,9 +8,9 @@ ghost use Rattle.field.specs.Firsts.{first};
 ghost use Rattle.field.specs.Rules.{sizes, lengths, fits, rooms-fit, cost-rule, side-rule, values-fit};
 ghost use Rattle.field.specs.Taken.{Sized, Laid};
 use super::limits::*;
-use super::refusal::Refusal;
-use super::refusal::Rooms;
+use super::rooms::Rooms;
 use super::side::Side;
+use word::Refusal;
 
 // 1: how many places, and the highest value.
 pub(super) fn sizes_fit(places: u64, top: u64) -> Result<(), Refusal>

@@ -6,13 +6,13 @@ ghost use Rattle.field.specs.Given.{field-in};
 ghost use Rattle.field.specs.Rules.{rooms-fit, verdict};
 ghost use Rattle.field.specs.Taken.{Taken};
 use super::convex::all_convex;
-use super::refusal::Refusal;
-use super::refusal::Rooms;
+use super::rooms::Rooms;
 use super::rules::costs_fit;
 use super::rules::lengths_fit;
 use super::rules::rooms_fit;
 use super::rules::sides_fit;
 use super::rules::sizes_fit;
+use word::Refusal;
 
 // The rules in their order.
 fn first_refusal(

@@ -14,7 +14,7 @@ use Rattle.theory.specs.Fields.{Field, total, Cheapest}
 use Rattle.theory.specs.Sheets.{there, back, out-of, into, Tight-at, Best-at, tight-at, best-at, Sheet}
 use Rattle.theory.proofs.Sheets.{tight-by, tight-not, best-by, best-not, sheet-right}
 use Rattle.field.specs.Firsts.{Tried, first}
-use Rattle.field.specs.declared.refusal.Refusal.{Refusal}
+use Rattle.word.specs.declared.refusal.Refusal.{Refusal}
 use Rattle.field.specs.Rules.{Verdict, verdict}
 use Rattle.field.specs.Given.{sides-of, field-in, picture-in}
 use Rattle.field.proofs.Firsts.{must-pass, must-stop, must-hold, must-say, both-ok, both-err, first-here, first-all, first-none, first-found}

@@ -4,7 +4,7 @@ use Prim.Native.Nat.{ℕ}
 use lib.ListN.{length, getD}
 use Rattle.std.specs.declared.option.Option.the-variants.{Some}
 use Rattle.theory.specs.Nets.{Flows}
-use Rattle.field.specs.declared.refusal.Rooms.{Rooms}
+use Rattle.field.specs.declared.rooms.Rooms.{Rooms}
 use Rattle.field.specs.Rules.{Verdict}
 use Rattle.field.specs.Costed.{all-fits}
 

@@ -1,8 +1,8 @@
 // For now: what three pictures of one small field cost. The field is a row of five places, measured 0 0 5 0 0, that pay
 // the square of the distance from the measured value, and 1 for each step between neighbours.
-use field::Refusal;
 use field::picture_cost;
 use std::io;
+use word::Refusal;
 
 const PLACES: u64 = 5;
 

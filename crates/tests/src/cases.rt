@@ -1,7 +1,7 @@
-use field::Refusal;
 use field::Rooms;
 use field::examine;
 use std::test::*;
+use word::Refusal;
 
 // Lent numbers, and what is answered of them.
 #[derive(Clone, Copy)]

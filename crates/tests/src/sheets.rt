@@ -1,9 +1,9 @@
-use field::Refusal;
 use sheet::check as sheet_word;
 use std::alloc::AllocError;
 use std::alloc::Global;
 use std::test::*;
 use word::Broken;
+use word::Refusal;
 use word::Word;
 use word::WordDebug;
 use word::WordPartialEq;

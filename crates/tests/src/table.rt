@@ -1,9 +1,9 @@
-use field::RefusalDebug;
-use field::RefusalPartialEq;
 use field::picture_cost;
 use std::alloc::AllocError;
 use std::alloc::Global;
 use std::test::*;
+use word::RefusalDebug;
+use word::RefusalPartialEq;
 use word::Word;
 use word::WordDebug;
 use word::WordPartialEq;

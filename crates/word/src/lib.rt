@@ -1,7 +1,10 @@
-// What the checker answers. A crate of its own, since the derived comparisons are dear to prove and never change.
-use field::Refusal;
-use field::RefusalDebug;
-use field::RefusalPartialEq;
+// The words with which entries answer: why an input is turned away, and what the checker says. A crate of its own, since
+// the derived comparisons are dear to prove and seldom change.
+mod refusal;
+
+pub use refusal::Refusal;
+pub use refusal::RefusalDebug;
+pub use refusal::RefusalPartialEq;
 
 // A rule of a sheet that is broken: sides first, then places, each with its values.
 #[derive(Clone, Copy, PartialEq, Eq, Debug)]

@@ -1,5 +1,5 @@
 ghost use mathlib.Core.Path.{_≡_};
-ghost use Rattle.field.specs.Numbered.{numberOf, placeOf};
+ghost use Rattle.word.specs.Numbered.{numberOf, placeOf};
 
 // Why an input is turned away. The rules are tried in the order in which they stand here, and the first that applies
 // is the answer.
@@ -55,11 +55,4 @@ impl Refusal {
             Refusal::ValueTooHigh(place) => u64::from(place),
         }
     }
-}
-
-// How many numbers are lent as room for a picture and for flows, where an entry is lent any.
-#[derive(Clone, Copy)]
-pub struct Rooms {
-    pub picture: Option<usize>,
-    pub flows: Option<usize>,
 }
