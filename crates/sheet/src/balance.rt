@@ -1,5 +1,5 @@
 ghost use mathlib.Core.Path.{_≡_};
-ghost use Prim.Native.Nat.{_*_, _<_, _≤_};
+ghost use Prim.Native.Nat.{_+_, _*_, _<_, _≤_};
 ghost use lib.IntN.{pos, negℤ, _+ℤ_, _-ℤ_};
 ghost use lib.ListN.{length, getD};
 ghost use lib.Signed.{_≤ℤ_};
@@ -32,6 +32,15 @@ pub(super) struct Priced {
     pub cost: u32,
 }
 
+// A cost, and so many times the size of a balance.
+fn weighed(cost: u32, size: u64, times: u32) -> u64
+    requires size { ⌜ size ≤ most-flow ⌝ }
+    requires times { ⌜ times ≤ most-top ⌝ }
+    ensures { λ r. ⌜ r ≡ cost + size * times ⌝ }
+{
+    u64::from(cost) + size * u64::from(times)
+}
+
 // Whether one value is no dearer than another at a place with this balance.
 pub(super) fn no_dearer(balance: i64, here: Priced, other: Priced) -> bool
     requires low { ⌜ (negℤ (pos most-flow)) ≤ℤ balance ⌝ }
@@ -46,6 +55,5 @@ pub(super) fn no_dearer(balance: i64, here: Priced, other: Priced) -> bool
     } else {
         (here.value, other.value)
     };
-    u64::from(here.cost) + size * u64::from(mine)
-        <= u64::from(other.cost) + size * u64::from(theirs)
+    weighed(here.cost, size, mine) <= weighed(other.cost, size, theirs)
 }
