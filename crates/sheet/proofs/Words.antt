@@ -24,7 +24,7 @@ use Rattle.word.specs.declared.Broken.the-variants.{Side, Place}
 use Rattle.word.specs.declared.Word.{Word}
 use Rattle.word.specs.declared.Word.the-variants as word
 use Rattle.sheet.specs.Given.{flows-in, both-rooms, claim-fits}
-use Rattle.sheet.specs.Words.{side-rule, value-rule, place-rule, rules, word-of, Said, First-broken, Right, Answer, Accepted}
+use Rattle.sheet.specs.Words.{side-rule, value-rule, place-rule, rules, word-of, Wanting, Said, First-broken, Right, Answer, Accepted}
 
 -- a test that does not fail passes
 passes : (b : Bool) → (b ≡ false → ⊥) → b ≡ true
@@ -142,7 +142,7 @@ module _ (f : Field) (u : Picture) (x : Flows) where
   refused-word e (word.Refused d) h = cc
   refused-word e word.NoMemory h = absurd h
 
-  pub said-answer : (t : Verdict) (r : Word) → Said r t (rules f u x) (total f u) → Answer t f u x r
+  pub said-answer : (t : Verdict) (r : Word) → Said f r t (rules f u x) (total f u) → Answer t f u x r
   said-answer (Ok o) r (inl e) =
       record {
         says = inl (subst (Right (Ok tt) f u x) (sym e) (word-right (rules f u x) (total f u) refl refl));
@@ -159,9 +159,9 @@ module _ (f : Field) (u : Picture) (x : Flows) where
   pub answer-sheet : (t : Verdict) (r : Word) → Answer t f u x r → Accepted r → (t ≡ Ok tt) × Sheet f u x
   answer-sheet t r a accepted = by (a .says)
     where
-      by : Right t f u x r ⊎ ((r ≡ word.NoMemory) × (t ≡ Ok tt)) → (t ≡ Ok tt) × Sheet f u x
+      by : Right t f u x r ⊎ (Wanting f r × (t ≡ Ok tt)) → (t ≡ Ok tt) × Sheet f u x
       by (inl h) = let right = subst (Right t f u x) (accepted .1) h in (right .0, right .1)
-      by (inr h) = let n = h .0 in let e = accepted .1 in absurd (let z : _≡_ {A = ℕ} 0 1 = cc in omega arith)
+      by (inr h) = let n = h .0 .0 in let e = accepted .1 in absurd (let z : _≡_ {A = ℕ} 0 1 = cc in omega arith)
 
 -- of lent numbers that are taken, a picture with a sheet is cheapest
 pub taken-cheapest :

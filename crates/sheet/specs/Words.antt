@@ -32,14 +32,22 @@ abbrev pub word-of : Tried Broken → ℕ → Word
 word-of (Ok o) cost = Cheapest cost
 word-of (Err b) cost = BrokenAt b
 
+-- a field of so many places is checked with no memory but the stack
+abbrev pub few-places : ℕ
+few-places = 4096
+
+-- there was no memory, of which only larger fields want any
+abbrev pub Wanting : Field → Word → Type 0
+Wanting f r = (r ≡ NoMemory) × (few-places < f .places)
+
 -- the answer is that word, or there was no memory to find it
-abbrev pub Judged : Word → Tried Broken → ℕ → Type 0
-Judged r t cost = (r ≡ word-of t cost) ⊎ (r ≡ NoMemory)
+abbrev pub Judged : Field → Word → Tried Broken → ℕ → Type 0
+Judged f r t cost = (r ≡ word-of t cost) ⊎ Wanting f r
 
 -- the answer of any lent numbers, of which the verdict says whether they are taken
-abbrev pub Said : Word → Verdict → Tried Broken → ℕ → Type 0
-Said r (Ok o) t cost = Judged r t cost
-Said r (Err e) t cost = r ≡ Refused e
+abbrev pub Said : Field → Word → Verdict → Tried Broken → ℕ → Type 0
+Said f r (Ok o) t cost = Judged f r t cost
+Said f r (Err e) t cost = r ≡ Refused e
 
 -- the first side whose rule is broken
 pub record First-side (f : Field) (u : Picture) (x : Flows) (k : ℕ) : Type 0 where
@@ -68,10 +76,10 @@ Right t f u x (BrokenAt b) = (t ≡ Ok tt) × First-broken f u x b
 Right t f u x (Refused e) = t ≡ Err e
 Right t f u x NoMemory = ⊥
 
--- the answer is right, and no other word is; or the numbers are taken and there was no memory
+-- the answer is right, and no other word is; or the numbers are taken and there was no memory for a large field
 pub record Answer (t : Verdict) (f : Field) (u : Picture) (x : Flows) (r : Word) : Type 0 where
-  pub says : Right t f u x r ⊎ ((r ≡ NoMemory) × (t ≡ Ok tt))
-  pub only : (w : Word) → Right t f u x w → (r ≡ w) ⊎ (r ≡ NoMemory)
+  pub says : Right t f u x r ⊎ (Wanting f r × (t ≡ Ok tt))
+  pub only : (w : Word) → Right t f u x w → (r ≡ w) ⊎ Wanting f r
 
 -- the checker accepts
 abbrev pub Accepted : Word → Type 0

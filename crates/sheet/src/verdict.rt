@@ -1,12 +1,12 @@
 ghost use mathlib.Core.Path.{_≡_};
-ghost use Prim.Native.Nat.{ℕ};
+ghost use Prim.Native.Nat.{ℕ, _≤_};
 ghost use lib.IntN.{pos};
 ghost use lib.ListN.{length, getD};
 ghost use Rattle.theory.specs.Fields.{Cheapest, total};
 ghost use Rattle.field.specs.Given.{picture-in, field-in};
 ghost use Rattle.sheet.specs.Given.{flows-in, claim-fits};
 ghost use Rattle.sheet.specs.Claimed.{claim-field, claim-picture, claim-flows};
-ghost use Rattle.sheet.specs.Words.{rules, word-of, Judged, Said, Answer, Accepted};
+ghost use Rattle.sheet.specs.Words.{rules, word-of, few-places, Judged, Said, Answer, Accepted};
 use super::claim::Claim;
 use field::FieldView;
 use field::Rooms;
@@ -14,6 +14,9 @@ use field::examine;
 use std::alloc::Global;
 use word::Broken;
 use word::Word;
+
+// A field of so many places is checked with no memory but the stack: 32 KiB.
+const FEW_PLACES: usize = 4_096;
 
 impl Claim<'_> {
     // The rules of a sheet in their order.
@@ -38,10 +41,22 @@ impl Claim<'_> {
         }
     }
 
-    // The same with zeros of its own, where there is memory for them.
-    fn word_from(&self, heap: Global, cost: u64) -> Word
-        ensures { λ r. ⌜ Judged r (rules (claim-field (now (self .entry))) (claim-picture (now (self .entry))) (claim-flows (now (self .entry)))) cost ⌝ }
+    // The same for a field of few places, with zeros on the stack.
+    fn word_of_few(&self, cost: u64) -> Word
+        requires { ⌜ now self .field .places ≤ few-places ⌝ }
+        ensures { λ r. ⌜ r ≡ word-of (rules (claim-field (now (self .entry))) (claim-picture (now (self .entry))) (claim-flows (now (self .entry)))) cost ⌝ }
     {
+        let mut balance = [0; FEW_PLACES];
+        self.word(&mut balance[0..self.field.places], cost)
+    }
+
+    // The same for any field, with zeros from the heap where there are many places.
+    fn word_from(&self, heap: Global, cost: u64) -> Word
+        ensures { λ r. ⌜ Judged (claim-field (now (self .entry))) r (rules (claim-field (now (self .entry))) (claim-picture (now (self .entry))) (claim-flows (now (self .entry)))) cost ⌝ }
+    {
+        if self.field.places <= FEW_PLACES {
+            return self.word_of_few(cost);
+        }
         match vec![in heap; 0i64; self.field.places] {
             Ok(mut balance) => self.word(balance.as_mut_slice(), cost),
             Err(_) => Word::NoMemory,
@@ -59,7 +74,7 @@ fn answer<'a>(
     picture: &'a [u32],
     flows: &'a [u32],
 ) -> Word
-    ensures { λ r. ⌜ Said r (claim-fits places top (now (costs .entry)) (now (sides .entry)) (now (picture .entry)) (now (flows .entry))) (rules (field-in places top (now (costs .entry)) (now (sides .entry))) (picture-in (now (picture .entry))) (flows-in (now (flows .entry)))) (total (field-in places top (now (costs .entry)) (now (sides .entry))) (picture-in (now (picture .entry)))) ⌝ }
+    ensures { λ r. ⌜ Said (field-in places top (now (costs .entry)) (now (sides .entry))) r (claim-fits places top (now (costs .entry)) (now (sides .entry)) (now (picture .entry)) (now (flows .entry))) (rules (field-in places top (now (costs .entry)) (now (sides .entry))) (picture-in (now (picture .entry))) (flows-in (now (flows .entry)))) (total (field-in places top (now (costs .entry)) (now (sides .entry))) (picture-in (now (picture .entry)))) ⌝ }
 {
     let rooms = Rooms {
         picture: Some(picture.len()),

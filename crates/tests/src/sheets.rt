@@ -639,6 +639,26 @@ fn repeated(heap: Global, numbers: &[u32], times: u32) -> Result<Vec<u32>, Alloc
     Ok(all)
 }
 
+// The most places that need no memory from the heap, and one more.
+#[test]
+fn few_places_and_many(rt: LibcRuntime) -> Result<(), Fail> {
+    let heap = rt.alloc();
+    for places in [4_096u32, 4_097] {
+        let costs = repeated(heap, &[0, 1], places)?;
+        let picture = repeated(heap, &[0], places)?;
+        Asked {
+            places: u64::from(places),
+            top: 1,
+            costs: costs.as_slice(),
+            sides: &[],
+            picture: picture.as_slice(),
+            flows: &[],
+            word: Word::Cheapest(0),
+        }.holds(heap)?;
+    }
+    Ok(())
+}
+
 // As many places and sides as there may be, each side at the highest price between the first two places: all flows
 // there, and then there and back.
 #[test]

@@ -1,4 +1,4 @@
-use Rattle.theory.specs.Fields.{Field, total}
+use Rattle.theory.specs.Fields.{Field}
 use Rattle.theory.specs.Nets.{Flows}
 use Rattle.theory.specs.Pictures.{Picture}
 use Rattle.field.specs.Given.{field-in, picture-in}

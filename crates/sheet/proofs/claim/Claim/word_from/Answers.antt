@@ -1,6 +1,6 @@
 use mathlib.Core.Path.{_≡_}
-use lib.IntN.{ℤ, pos}
-use lib.ListN.{length, getD, replicate}
+use lib.IntN.{pos}
+use lib.ListN.{replicate}
 use borrow.Author.Needs.{needs}
 use Rattle.field.proofs.Rows.{same-everywhere}
 use Rattle.sheet.proofs.claim.Claim.word_from.Needs as need
