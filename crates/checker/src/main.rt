@@ -2,6 +2,8 @@
 // measured 0 0 5 0 0, that pay the square of the distance from the measured value, and 1 for each step between
 // neighbours. The first sheet is right; the second lacks a flow from the higher place to the lower; the third is one
 // for the first picture, offered for another.
+#![tactic(auto)]
+
 use sheet::check;
 use std::io;
 use word::{Broken, Refusal, Word};

@@ -1,4 +1,6 @@
 // Fields over lent numbers: what is turned away and why, a validated view of the rest, and what a picture costs.
+#![tactic(auto)]
+
 mod convex;
 mod cost;
 mod limits;

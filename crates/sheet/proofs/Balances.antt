@@ -1,5 +1,6 @@
 -- Laws of balances: what flows out of each place less what flows in.
-use Rattle.std.proofs.Common.{◌≡◌, ℕ, suc, ◌+◌, ◌*◌, ◌<◌, ◌≤◌, Bool, true, false, cond, eqb, leb, ◌≢◌, ◌⊎◌, List, length, get_or, ℤ, pos, negsuc, ◌+ℤ◌, sym, refl, ◌∙◌, inl, inr, add-one, arith, length-set, get_or-set_other, get_or-set_same}
+use Rattle.std.proofs.Common.{◌≡◌, ℕ, suc, ◌+◌, ◌-◌, ◌*◌, ◌<◌, ◌≤◌, Bool, true, false, cond, eqb, leb, ◌≢◌, ◌⊎◌, List, length, get_or, take, drop, replicate, ℤ, pos, negsuc, ◌+ℤ◌, sym, refl, ◌∙◌, inl, inr, add-one, arith, length-set, get_or-set_other, get_or-set_same}
+use Rattle.std.proofs.lemmas.List.{take-replicate}
 use Rattle.std.proofs.lemmas.Int.{ints}
 use Rattle.std.proofs.lemmas.Bool.{cases_eq, cases_lt, eq-eqb, ne_eqb, le-leb, lt-leb}
 use Rattle.theory.specs.Nets.{Flows, no_dearer_test}
@@ -59,3 +60,7 @@ balance_test cost (pos n) out into a b c d e p q =
 balance_test cost (negsuc n) out into a b c d e p q =
     let all : into ≡ suc n + out = omega (arith, ints) in
     rw (all, ← p, ← q) (leb_same _ _ _ _ (λ h. omega arith) (λ h. omega arith))
+
+-- a part from the start of equal numbers, as it is lent on
+pub front_of_equals : (n k : ℕ) (z : ℤ) → k ≤ n → take (k - 0) (drop 0 (replicate n z)) ≡ replicate k z
+front_of_equals n k z l = let whole : k - 0 ≡ k = omega arith in rw whole (take-replicate k n z l)

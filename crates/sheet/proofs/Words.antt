@@ -1,5 +1,6 @@
 -- What the rules tried in their order come to: a sheet, or the first rule that is broken; and the other way round.
-use Rattle.std.proofs.Common.{◌≡◌, ℕ, suc, ◌<◌, ◌≤◌, Bool, true, false, ◌⊎◌, List, Ok, Err, sym, refl, ◌∙◌, subst, inl, inr, arith}
+use Rattle.std.proofs.Common.{◌≡◌, ℕ, suc, ◌*◌, ◌<◌, ◌≤◌, Bool, true, false, ◌⊎◌, List, length, Ok, Err, sym, refl, ◌∙◌, subst, inl, inr, arith}
+use Rattle.std.proofs.lemmas.Bool.Decides.{nat_tests}
 use Rattle.theory.specs.Pictures.{Picture}
 use Rattle.theory.specs.Nets.{Flows}
 use Rattle.theory.specs.Fields.{Field, total, Cheapest}
@@ -7,16 +8,15 @@ use Rattle.theory.specs.Sheets.{there, back, out_of, into, TightAt, BestAt, tigh
 use Rattle.theory.proofs.Sheets.{tight_by, tight_not, best_by, best_not, sheet_right}
 use Rattle.field.specs.Firsts.{Tried, first}
 use Rattle.word.specs.declared.refusal.Refusal.{Refusal}
-use Rattle.field.specs.Rules.{Verdict}
-use Rattle.field.specs.Given.{field_in, picture_in, flows_in}
+use Rattle.field.specs.Rules.{Verdict, verdict}
+use Rattle.field.specs.Given.{sides_of, field_in, picture_in}
 use Rattle.field.proofs.Firsts.{must_pass, must_stop, must_hold, must_say, both_ok, both_err, first_here, first_all, first_none, first_found}
-use Rattle.field.proofs.Verdicts.{taken_by, sound_by, values_taken}
+use Rattle.field.proofs.Verdicts.{taken_by, rooms_by, sound_by, values_taken}
 use Rattle.word.specs.declared.Broken.{Broken}
 use Rattle.word.specs.declared.Broken.TheVariants.{Side, Place}
 use Rattle.word.specs.declared.Word.{Word}
 use Rattle.word.specs.declared.Word.TheVariants as word
-use Rattle.field.specs.Costed.{both_rooms}
-use Rattle.sheet.specs.Given.{claim_fits}
+use Rattle.sheet.specs.Given.{flows_in, both_rooms, claim_fits}
 use Rattle.sheet.specs.Words.{side_rule, value_rule, place_rule, rules, word_of, Wanting, Said, FirstBroken, Right, Answer, Accepted}
 
 -- a test that does not fail passes
@@ -165,3 +165,11 @@ taken_cheapest places top costs sides picture flows h s =
     let taken = taken_by places top costs sides (both_rooms picture flows) b.0 in
     sheet_right (field_in places top costs sides) (picture_in picture) (flows_in flows) (sound_by places top costs sides taken)
     (λ i l. values_taken top picture b.1 i) s
+
+-- and they have the lengths that they should
+pub rooms_taken :
+    (places top : ℕ) (costs sides picture flows : List ℕ) → verdict places top costs sides (both_rooms picture flows) ≡ Ok tt →
+    (length picture ≡ places) × (length flows ≡ 2 * sides_of sides)
+rooms_taken places top costs sides picture flows h =
+    let fit = rooms_by places top costs sides (both_rooms picture flows) h in
+    (grind (arith, nat_tests), grind (arith, nat_tests))

@@ -2,9 +2,10 @@
 use Rattle.theory.specs.Pictures.{Picture}
 use Rattle.theory.specs.Nets.{Flows}
 use Rattle.theory.specs.Fields.{Field}
-use Rattle.field.specs.Given.{picture_in, flows_in}
+use Rattle.field.specs.Given.{picture_in}
 use Rattle.field.specs.Viewed.{field_of}
 use Rattle.sheet.specs.declared.claim.Claim.{Claim}
+use Rattle.sheet.specs.Given.{flows_in}
 
 abbrev pub claim_field : Claim → Field
 claim_field c = field_of c.field

@@ -1,4 +1,6 @@
 // Sheets of flows, and the checker that accepts just those that show a picture to be cheapest.
+#![tactic(auto)]
+
 mod balance;
 mod claim;
 mod flow;

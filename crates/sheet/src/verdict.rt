@@ -1,7 +1,7 @@
 ghost use Rattle.std.specs.Prelude.{◌≡◌, ℕ, ◌≤◌, length, pos, slice_index_or};
 ghost use Rattle.theory.specs.Fields.{Cheapest, total};
-ghost use Rattle.field.specs.Given.{picture_in, field_in, flows_in};
-ghost use Rattle.sheet.specs.Given.{claim_fits};
+ghost use Rattle.field.specs.Given.{picture_in, field_in};
+ghost use Rattle.sheet.specs.Given.{flows_in, claim_fits};
 ghost use Rattle.sheet.specs.Claimed.{claim_field, claim_picture, claim_flows};
 ghost use Rattle.sheet.specs.Words.{rules, word_of, few_places, Judged, Said, Answer, Accepted};
 

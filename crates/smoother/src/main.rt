@@ -1,5 +1,7 @@
 // For now: what three pictures of one small field cost. The field is a row of five places, measured 0 0 5 0 0, that pay
 // the square of the distance from the measured value, and 1 for each step between neighbours.
+#![tactic(auto)]
+
 use field::picture_cost;
 use std::io;
 use word::Refusal;

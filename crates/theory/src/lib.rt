@@ -1,5 +1,7 @@
 // The theory of fields and their cheapest pictures. A function here does nothing but carry a theorem as its contract,
 // so that the crate is proved only with the theorem.
+#![tactic(auto)]
+
 ghost use Rattle.std.specs.Prelude.{◌≡◌, ℕ, ◌<◌, length, ℤ, slice_index_or};
 ghost use Rattle.theory.specs.Pictures.{Picture};
 ghost use Rattle.theory.specs.Nets.{net_total, Flows, Certificate};

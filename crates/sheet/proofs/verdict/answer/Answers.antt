@@ -1,5 +1,5 @@
 use Rattle.std.proofs.Common.{sym}
-use Rattle.field.proofs.Verdicts.{rooms_taken}
+use Rattle.sheet.proofs.Words.{rooms_taken}
 use Rattle.sheet.proofs.verdict.answer.Goals as goal
 
 pub invariant-of-word-from : goal.invariant-of-word-from

@@ -1,9 +1,9 @@
 use Rattle.theory.specs.Fields.{Field}
 use Rattle.theory.specs.Nets.{Flows}
 use Rattle.theory.specs.Pictures.{Picture}
-use Rattle.field.specs.Given.{field_in, picture_in, flows_in}
+use Rattle.field.specs.Given.{field_in, picture_in}
 use Rattle.field.specs.Rules.{Verdict}
-use Rattle.sheet.specs.Given.{claim_fits}
+use Rattle.sheet.specs.Given.{flows_in, claim_fits}
 use Rattle.sheet.specs.Words.{Answer}
 use Rattle.sheet.proofs.Words.{said_answer, answer_sheet, taken_cheapest}
 use Rattle.sheet.proofs.verdict.check.Goals as goal

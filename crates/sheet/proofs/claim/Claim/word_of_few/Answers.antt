@@ -1,7 +1,8 @@
 use Rattle.std.proofs.Common.{ℕ, pos}
 use lib.ListN.{length-replicate}
-use Rattle.field.proofs.Rows.{same_everywhere, front_of_equals}
+use Rattle.field.proofs.Rows.{same_everywhere}
 use Rattle.sheet.specs.Words.{few_places}
+use Rattle.sheet.proofs.Balances.{front_of_equals}
 use Rattle.sheet.proofs.claim.Claim.word_of_few.Goals as goal
 
 pub word-requires : goal.word-requires
