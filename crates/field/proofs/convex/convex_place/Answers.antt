@@ -6,7 +6,7 @@ use Rattle.field.proofs.convex.convex_place.Goals as goal
 
 pub returns : goal.returns
 returns c =
-    c.convex-row.ensures
+    c.convex_row.ensures
     ∙ first_same _ _ c.args.top
-    (rule_same c.args.place (λ v. get_or c.place-costs.result v 0) (cost_in c.args.top c.args.costs.now c.args.place)
-    c.args.top c.place-costs.ensures.each)
+    (rule_same c.args.place (λ v. get_or c.place_costs.result v 0) (cost_in c.args.top c.args.costs.now c.args.place)
+    c.args.top c.place_costs.ensures.each)

@@ -5,9 +5,9 @@ use Rattle.field.proofs.convex.place_costs.Goals as goal
 
 pub returns : goal.returns
 returns c =
-    let whole : length c.copy-from-slice.new.self ≡ c.args.top + 1 = search (rules, places) in
+    let whole : length c.copy_from_slice.new.self ≡ c.args.top + 1 = search (rules, places) in
     record {
       size = search (rules, places);
       each = search (rules, places);
-      past = λ v l. past_written c.copy-from-slice.new.self 256 ((c.args.top + 1) - 0) v (omega arith);
+      past = λ v l. past_written c.copy_from_slice.new.self 256 ((c.args.top + 1) - 0) v (omega arith);
     }

@@ -11,8 +11,8 @@ small c =
     let price : c.read.result.price ≤ most_price = rw c.read.ensures.price (c.args.self.now.priced c.loop-k.k c.loop-k-test.true) in
     rw c.cost-cost.ensures (steps_small _ _ _ price (c.requires.low c.read.result.first) (c.requires.low c.read.result.second))
 
-pub overflow-add-cost : goal.overflow-add-cost
-overflow-add-cost c = omega (arith, small c)
+pub overflow_add-cost : goal.overflow_add-cost
+overflow_add-cost c = omega (arith, small c)
 
 pub loop-k-preserved : goal.loop-k-preserved
 loop-k-preserved c =
