@@ -11,4 +11,4 @@ returns c =
     let exact = c.requires.counted.exact a.place in
     let read : to_z w64 (of_z w64 z) ≡ z = omega (arith, ints, exact, c.requires.counted.few_out a.place, c.requires.counted.few_into a.place) in
     sym (value_tested (claim_field a.self.now) (claim_picture a.self.now) (claim_flows a.self.now) a.place a.value _ z _ _ _ _ _ read
-    exact c.priced-here.ensures.value c.priced.ensures.value c.priced-here.ensures.cost c.priced.ensures.cost c.no-dearer.ensures)
+    exact c.priced-here.ensures.value c.priced.ensures.value c.priced-here.ensures.cost c.priced.ensures.cost c.no_dearer.ensures)
