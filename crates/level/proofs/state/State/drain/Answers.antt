@@ -26,8 +26,8 @@ loop-self-preserved c =
         steps = after.same.steps ∙ inv.2.steps;
         marks = after.same.marks ∙ inv.2.marks;
       },
-      c.nearest-sink.ensures.sized,
-      home_more c.args.search.now c.loop-self.search c.nearest-sink.new.search inv.4 c.nearest-sink.ensures.home,
+      c.nearest_sink.ensures.sized,
+      home_more c.args.search.now c.loop-self.search c.nearest_sink.new.search inv.4 c.nearest_sink.ensures.home,
     )
 
 pub returns-in-None : goal.returns-in-None
@@ -35,11 +35,11 @@ returns-in-None c =
     let t = c.args.task.now in
     let v : Scene = scene_of t c.args.self.now in
     let w : Scene = scene_of t c.loop-self.self in
-    let q : Search = c.nearest-sink.new.search in
+    let q : Search = c.nearest_sink.new.search in
     let inv = c.loop-self.invariant in
-    let tree = c.nearest-sink.ensures.tree in
+    let tree = c.nearest_sink.ensures.tree in
     let found = c.in-None.ensures.found in
-    let root : at q 0 ≡ c.args.source = c.nearest-sink.ensures.first in
+    let root : at q 0 ≡ c.args.source = c.nearest_sink.ensures.first in
     let wanting : step w c.args.source <ℤ pos 0 = c.loop-self-test.ensures in
     let u : Scene = made v.places v.ends v.prices t.group w.flows w.steps c.close.new.marks in
     let fitting : Fitting u =
@@ -55,6 +55,6 @@ returns-in-None c =
           w.flows w.flows v.steps w.steps w.steps v.marks w.marks c.close.new.marks inv.0 shut;
       high = λ o. absurd (t.other (sym (c.close.ensures.reached c.args.source source_seen) ∙ o));
       same = record { flows = inv.2.flows; steps = inv.2.steps; marks = inv.2.marks };
-      sized = c.nearest-sink.ensures.sized;
-      home = home_more c.args.search.now c.loop-self.search q inv.4 c.nearest-sink.ensures.home;
+      sized = c.nearest_sink.ensures.sized;
+      home = home_more c.args.search.now c.loop-self.search q inv.4 c.nearest_sink.ensures.home;
     }

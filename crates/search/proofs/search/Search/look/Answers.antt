@@ -5,7 +5,7 @@ returns c =
     record {
       went = c.extend.ensures.went;
       found = (
-        c.extend.ensures.quiet c.requires.quiet (rw c.head-place.ensures.place at c.if-is-sink.ensures),
+        c.extend.ensures.quiet c.requires.quiet (rw c.head-place.ensures.place at c.if-is_sink.ensures),
         λ room opened. c.extend.ensures.seen,
       );
     }

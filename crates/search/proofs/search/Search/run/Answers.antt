@@ -10,7 +10,7 @@ loop-done-preserved c =
     let s : Search = c.loop-done.self in
     let t : Search = c.scan.new.self in
     let went = c.scan.ensures.went in
-    let found = c.in-default.ensures.found in
+    let found = c.in_default.ensures.found in
     let inv = c.loop-done.invariant in (
       went.tree,
       went.sized,

@@ -34,7 +34,7 @@ loop-next-preserved c =
     let next = c.args.residual.now.graph.followed a (omega arith) ∙ ap (last v.ends a) leaves in
     let before : FollowedFrom v s i (suc a) = rw one at c.loop-next.invariant.3 in
     let went = c.look.ensures.went in
-    let found = c.in-default.ensures.found in
+    let found = c.in_default.ensures.found in
     let more = scan_more v s t i a _ (omega arith) before went.grown found.1 next in (
       record {
         tree = went.tree;
