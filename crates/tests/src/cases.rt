@@ -27,12 +27,12 @@ pub const NO_ROOMS: Rooms = Rooms {
 };
 
 impl Case<'_> {
-    pub(super) fn holds(&self) -> Result<(), Fail> {
+    pub(super) fn holds(&self, rt: &impl Abort) -> Result<(), Fail> {
         let answer = match examine(self.places, self.top, self.costs, self.sides, self.rooms) {
             Ok(()) => Answer::Taken,
             Err(refusal) => turned_away(refusal),
         };
-        assert_eq!(answer, self.answer);
+        assert_eq!(rt; answer, self.answer);
         Ok(())
     }
 }

@@ -372,9 +372,9 @@ const CASES: [Case<'static>; 39] = [
 ];
 
 #[test]
-fn each_rule_at_its_edge() -> Result<(), Fail> {
+fn each_rule_at_its_edge(rt: HostRuntime) -> Result<(), Fail> {
     for case in &CASES {
-        case.holds()?;
+        case.holds(&rt)?;
     }
     Ok(())
 }
@@ -393,7 +393,7 @@ fn most_places(rt: HostRuntime) -> Result<(), Fail> {
         rooms,
         answer: Taken,
     }
-    .holds()?;
+    .holds(&rt)?;
     Case {
         places: 65_537,
         top: 1,
@@ -402,7 +402,7 @@ fn most_places(rt: HostRuntime) -> Result<(), Fail> {
         rooms,
         answer: Refused(1, 0),
     }
-    .holds()
+    .holds(&rt)
 }
 
 #[test]
@@ -419,7 +419,7 @@ fn most_sides(rt: HostRuntime) -> Result<(), Fail> {
         rooms,
         answer: Taken,
     }
-    .holds()?;
+    .holds(&rt)?;
     Case {
         places: 2,
         top: 3,
@@ -428,7 +428,7 @@ fn most_sides(rt: HostRuntime) -> Result<(), Fail> {
         rooms,
         answer: Refused(2, 1),
     }
-    .holds()
+    .holds(&rt)
 }
 
 // 6: a value above the top; a picture of another length is turned away before it.

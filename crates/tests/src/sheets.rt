@@ -599,8 +599,8 @@ const CASES: [Asked<'static>; 63] = [
 ];
 
 impl Asked<'_> {
-    fn holds(&self, heap: Global) -> Result<(), Fail> {
-        assert_eq!(
+    fn holds(&self, rt: &impl Abort, heap: Global) -> Result<(), Fail> {
+        assert_eq!(rt;
             sheet_word(
                 heap,
                 self.places,
@@ -619,7 +619,7 @@ impl Asked<'_> {
 #[test]
 fn each_word_at_its_edge(rt: HostRuntime) -> Result<(), Fail> {
     for case in &CASES {
-        case.holds(rt.alloc())?;
+        case.holds(&rt, rt.alloc())?;
     }
     Ok(())
 }
@@ -651,7 +651,7 @@ fn few_places_and_many(rt: HostRuntime) -> Result<(), Fail> {
             flows: &[],
             word: Word::Cheapest(0),
         }
-        .holds(heap)?;
+        .holds(&rt, heap)?;
     }
     Ok(())
 }
@@ -675,11 +675,11 @@ fn most_flows(rt: HostRuntime) -> Result<(), Fail> {
         flows: there.as_slice(),
         word: Word::BrokenAt(Broken::Place { place: 1, value: 1 }),
     };
-    asked.holds(heap)?;
+    asked.holds(&rt, heap)?;
     Asked {
         flows: both.as_slice(),
         word: Word::Cheapest(0),
         ..asked
     }
-    .holds(heap)
+    .holds(&rt, heap)
 }

@@ -176,18 +176,18 @@ impl Row {
         Ok(sides)
     }
 
-    fn holds(&self, heap: Global) -> Result<(), Fail> {
+    fn holds(&self, rt: &impl Abort, heap: Global) -> Result<(), Fail> {
         let lent = self.costs(heap)?;
         let joined = self.sides(heap)?;
         let costs = lent.as_slice();
         let sides = joined.as_slice();
         let places = self.measured.len() as u64;
         let top = u64::from(self.top);
-        assert_eq!(
+        assert_eq!(rt;
             picture_cost(places, top, costs, sides, self.picture),
             Ok(self.cost)
         );
-        assert_eq!(
+        assert_eq!(rt;
             sheet::check(heap, places, top, costs, sides, self.picture, self.flows),
             Word::Cheapest(self.cost)
         );
@@ -198,7 +198,7 @@ impl Row {
 #[test]
 fn known_pictures_and_sheets(rt: HostRuntime) -> Result<(), Fail> {
     for row in &ROWS {
-        row.holds(rt.alloc())?;
+        row.holds(&rt, rt.alloc())?;
     }
     Ok(())
 }

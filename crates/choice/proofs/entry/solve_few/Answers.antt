@@ -3,8 +3,8 @@ use Rattle.field.proofs.Rows.{front_long}
 use Rattle.choice.specs.Solved.{few_places, few_sides}
 use Rattle.choice.proofs.entry.solve_few.Goals as goal
 
-pub solve-in-requires : goal.solve-in-requires
-solve-in-requires c =
+pub solve_in-requires : goal.solve_in-requires
+solve_in-requires c =
     let n : ℕ = c.args.field.now.places in
     let m : ℕ = length c.args.flows.now in
     let by_place = front_long {A = ℕ} few_places n 0 c.requires.places in

@@ -1,8 +1,8 @@
 use Rattle.std.proofs.Common.{rules}
 use Rattle.choice.proofs.entry.solve_many.Goals as goal
 
-pub solve-in-requires : goal.solve-in-requires
-solve-in-requires c =
+pub solve_in-requires : goal.solve_in-requires
+solve_in-requires c =
     record {
       two = c.requires.two;
       roomy = record { ends = search rules; prices = search rules; heads = search rules; nexts = search rules; members = search rules };

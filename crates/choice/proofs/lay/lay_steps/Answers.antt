@@ -12,4 +12,4 @@ loop-i-preserved c =
     below_more _ _
     (λ k h. let other : k ≢ i = omega arith in rw get_or-set_other (c.loop-i.invariant k h))
     (let within : i < length c.loop-i.steps = omega arith in
-    rw get_or-set_same (omega (arith, ints, (c.type-inv.costs (2 * i)).fits, (c.type-inv.costs (2 * i + 1)).fits)))
+    rw get_or-set_same (omega (arith, ints, (c.type_inv.costs (2 * i)).fits, (c.type_inv.costs (2 * i + 1)).fits)))

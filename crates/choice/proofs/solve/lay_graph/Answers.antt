@@ -6,8 +6,8 @@ use Rattle.choice.proofs.solve.lay_graph.Goals as goal
 pub link-requires : goal.link-requires
 link-requires c =
     let f = c.args.field.now in
-    let long : length c.lay-arcs.new.ends ≡ 2 * sides_of f.sides.now = search rules in
-    let inside = tails_inside f.places f.costs.now f.sides.now c.lay-arcs.new.ends c.lay-arcs.new.prices long c.lay-arcs.ensures f.starts f.ends in
+    let long : length c.lay_arcs.new.ends ≡ 2 * sides_of f.sides.now = search rules in
+    let inside = tails_inside f.places f.costs.now f.sides.now c.lay_arcs.new.ends c.lay_arcs.new.prices long c.lay_arcs.ensures f.starts f.ends in
     record {
       few = search rules;
       each = search rules;

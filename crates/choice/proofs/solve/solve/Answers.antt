@@ -5,33 +5,23 @@ use Rattle.choice.specs.Solved.{Solved}
 use Rattle.choice.proofs.Cuts.{tails_inside, prices_cheap, level_solved}
 use Rattle.choice.proofs.solve.solve.Goals as goal
 
-pub invariant-of-task : goal.invariant-of-task
-invariant-of-task c =
+pub invariant_of-task : goal.invariant_of-task
+invariant_of-task c =
     let f = c.args.field.now in
     let a = c.args.arcs.now in
     let laid = c.requires.laid in
-    let inside = tails_inside f.places f.costs.now f.sides.now a.ends.now a.prices.now laid.ends laid.ways f.starts f.ends in (
-      omega (arith, laid.heads, f.few),
-      (
-        omega (arith, laid.ends, f.scarce),
-        (
-          omega (arith, laid.ends),
-          (
-            omega (arith, laid.ends, laid.each),
-            (
-              omega (arith, laid.ends, laid.follows),
-              (
-                (λ e l. omega (arith, inside e l, laid.heads)),
-                (
-                  prices_cheap f.places f.costs.now f.sides.now a.ends.now a.prices.now laid.ends laid.ways laid.each f.priced,
-                  ((λ i l. laid.headed i (omega (arith, laid.heads))), (laid.followed, tt)),
-                ),
-              ),
-            ),
-          ),
-        ),
-      ),
-    )
+    let inside = tails_inside f.places f.costs.now f.sides.now a.ends.now a.prices.now laid.ends laid.ways f.starts f.ends in
+    record {
+      few = omega (arith, laid.heads, f.few);
+      scarce = omega (arith, laid.ends, f.scarce);
+      even = omega (arith, laid.ends);
+      priced = omega (arith, laid.ends, laid.each);
+      listed = omega (arith, laid.ends, laid.follows);
+      inside = λ e l. omega (arith, inside e l, laid.heads);
+      cheap = prices_cheap f.places f.costs.now f.sides.now a.ends.now a.prices.now laid.ends laid.ways laid.each f.priced;
+      headed = λ i l. laid.headed i (omega (arith, laid.heads));
+      followed = laid.followed;
+    }
 
 pub run-requires : goal.run-requires
 run-requires c =
