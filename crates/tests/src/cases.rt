@@ -1,4 +1,5 @@
 use field::{Rooms, examine};
+use std::process::Abort;
 use std::test::*;
 use word::Refusal;
 

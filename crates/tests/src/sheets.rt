@@ -1,5 +1,6 @@
 use sheet::check as sheet_word;
 use std::alloc::{AllocError, Global};
+use std::process::Abort;
 use std::test::*;
 use word::{Broken, Refusal, Word};
 

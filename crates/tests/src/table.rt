@@ -1,5 +1,6 @@
 use field::picture_cost;
 use std::alloc::{AllocError, Global};
+use std::process::Abort;
 use std::test::*;
 use word::Word;
 
