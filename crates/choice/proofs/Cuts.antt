@@ -1,23 +1,22 @@
 -- What a level leaves behind that begins with no flows and all places open is a least cut of the field's net, so that the picture is the lowest cheapest one and the flows are a sheet for it.
-use Rattle.std.proofs.Common.{◌≡◌, ℕ, ◌+◌, ◌*◌, ◌<◌, ◌≤◌, Bool, true, false, cond, eqb, ◌⊎◌, List, length, get_or, ℤ, pos, ◌+ℤ◌, ◌-ℤ◌, ◌≤ℤ◌, ◌<ℤ◌, sym, refl, ap, ◌∙◌, inl, inr, arith}
+use Rattle.std.proofs.Common.{◌≡◌, ℕ, ◌*◌, ◌<◌, ◌≤◌, Bool, true, false, cond, eqb, ◌⊎◌, List, length, get_or, ℤ, pos, ◌-ℤ◌, ◌≤ℤ◌, sym, refl, ap, ◌∙◌, inl, inr, arith}
 use Rattle.std.proofs.lemmas.List.{get_or_past}
 use Rattle.std.proofs.lemmas.Int.{ints}
 use Rattle.std.proofs.lemmas.Bool.{cases_lt}
 use Rattle.theory.specs.Sums.{sum}
-use Rattle.theory.specs.Pictures.{Picture}
-use Rattle.theory.specs.Nets.{Arc, Net, Flows, carried, net_out, net_into}
+use Rattle.theory.specs.Nets.{Arc, Flows, carried}
 use Rattle.theory.specs.Fields.{Field, Sound, net_of}
-use Rattle.theory.specs.Levels.{partner, room, room_of, Stepped, LeastCut}
+use Rattle.theory.specs.Levels.{room, room_of, Stepped, LeastCut}
 use Rattle.theory.proofs.Sums.{sum_same, sum_zero}
 use Rattle.theory.proofs.Fields.{each_arc}
 use Rattle.theory.proofs.Pairs.{partner_even, partner_odd}
 use Rattle.theory.proofs.Levels.{cut_sheet, cut_lowest}
-use Rattle.field.specs.Given.{sides_of, side_in, cost_in, field_in, picture_in, flows_in}
+use Rattle.field.specs.Given.{sides_of, cost_in, field_in, picture_in, flows_in}
 use Rattle.field.specs.Limits.{most_price}
 use Rattle.field.specs.Taken.{Starts, Ends, Priced}
 use Rattle.graph.specs.Arcs.{net_in, BothWays}
 use Rattle.search.specs.Residuals.{Scene, net, flow, step, Open, room_at}
-use Rattle.level.specs.Moves.{Closed, Closing}
+use Rattle.level.specs.Moves.{Closing}
 use Rattle.level.proofs.Closings.{made}
 use Rattle.choice.specs.Solved.{Solved}
 

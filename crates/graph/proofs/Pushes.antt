@@ -1,7 +1,6 @@
 -- A push along an arc: flows stay within their prices, and the amount goes from one end to the other.
 use Rattle.std.proofs.Common.{◌≡◌, ℕ, ◌+◌, ◌-◌, ◌*◌, ◌/◌, ◌<◌, ◌≤◌, min, ◌≢◌, ◌⊎◌, List, length, get_or, set, sym, refl, ap, ◌∙◌, inl, inr, arith, length-set, get_or-set_other, get_or-set_same}
 use Rattle.std.proofs.lemmas.Bool.{cases_eq}
-use Rattle.theory.specs.Nets.{Net, Flows}
 use Rattle.theory.specs.Levels.{partner, room, room_of, Paired}
 use Rattle.theory.proofs.Pairs.{partner_back, partner_below, partner_other}
 use Rattle.theory.proofs.Levels.{push_moves}

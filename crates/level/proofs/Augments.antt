@@ -1,14 +1,13 @@
 -- An augmentation: an amount goes from a source to a sink, whose steps come nearer to 0 by it.
-use Rattle.std.proofs.Common.{◌≡◌, ℕ, ◌<◌, ◌≤◌, true, false, cond, eqb, ◌≢◌, ◌⊎◌, List, length, get_or, set, ℤ, pos, ◌+ℤ◌, ◌-ℤ◌, ◌≤ℤ◌, ◌<ℤ◌, sym, refl, ap, ◌∙◌, inl, inr, arith, length-set, get_or-set_other, get_or-set_same}
+use Rattle.std.proofs.Common.{◌≡◌, ℕ, ◌<◌, ◌≤◌, ◌≢◌, ◌⊎◌, List, length, get_or, set, ℤ, pos, ◌+ℤ◌, ◌-ℤ◌, ◌≤ℤ◌, ◌<ℤ◌, sym, refl, ap, ◌∙◌, inl, inr, arith, length-set, get_or-set_other, get_or-set_same}
 use Rattle.std.proofs.lemmas.Int.{ints}
 use Rattle.std.proofs.lemmas.Bool.{cases_eq, eq-eqb, ne_eqb}
-use Rattle.theory.specs.Nets.{Flows, net_out, net_into}
 use Rattle.field.specs.Given.{flows_in}
 use Rattle.graph.specs.Flowed.{only}
 use Rattle.search.specs.declared.search.Search.{Search}
-use Rattle.search.specs.Residuals.{Scene, net, flow, step, Open}
+use Rattle.search.specs.Residuals.{Scene, step}
 use Rattle.search.specs.Trees.{at, Seen, Tree, Sink}
-use Rattle.level.specs.Moves.{Nearer, Moved, Fitting, Closing}
+use Rattle.level.specs.Moves.{Nearer, Fitting, Closing}
 use Rattle.level.specs.Carries.{Carrying}
 use Rattle.level.proofs.Carries.{seen_open, seen_inside}
 use Rattle.level.proofs.Closings.{made, closing_still}

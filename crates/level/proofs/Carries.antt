@@ -1,10 +1,10 @@
 -- An amount is carried along the path of a search, arc by arc, from the sink back to the root.
-use Rattle.std.proofs.Common.{◌≡◌, ℕ, ◌+◌, ◌*◌, ◌/◌, ◌<◌, ◌≤◌, cond, ◌≢◌, ◌⊎◌, length, sym, refl, ap, ◌∙◌, subst, inl, inr, arith}
+use Rattle.std.proofs.Common.{◌≡◌, ℕ, ◌<◌, ◌≤◌, ◌≢◌, ◌⊎◌, sym, refl, ap, ◌∙◌, subst, inl, inr, arith}
 use Rattle.theory.specs.Nets.{Net, Flows}
 use Rattle.theory.specs.Levels.{partner, room, room_of, Paired}
 use Rattle.graph.specs.Flowed.{only, Carried, WithinPrices, Pushed}
 use Rattle.search.specs.declared.search.Search.{Search}
-use Rattle.search.specs.Residuals.{Scene, net, flow, Open, room_at}
+use Rattle.search.specs.Residuals.{Scene, net, flow, Open}
 use Rattle.search.specs.Trees.{at, slot, parent, reach, Seen, Led, Tree}
 use Rattle.level.specs.Carries.{Carrying}
 

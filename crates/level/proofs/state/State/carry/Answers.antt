@@ -1,11 +1,11 @@
-use Rattle.std.proofs.Common.{◌≡◌, ℕ, ◌≢◌, length, sym, subst, arith, rules}
+use Rattle.std.proofs.Common.{◌≢◌, sym, subst, arith, rules}
 use Rattle.theory.specs.Levels.{Paired}
 use Rattle.theory.specs.Nets.{Flows}
 use Rattle.field.specs.Given.{flows_in}
 use Rattle.graph.proofs.Pushes.{arcs_paired}
 use Rattle.search.specs.declared.search.Search.{Search}
 use Rattle.search.specs.Residuals.{Scene, net}
-use Rattle.search.specs.Trees.{at, parent}
+use Rattle.search.specs.Trees.{at}
 use Rattle.level.specs.Levels.{scene_of}
 use Rattle.level.specs.Carries.{Carrying}
 use Rattle.level.proofs.Carries.{carrying_arc, carrying_room, carrying_less, carrying_more}

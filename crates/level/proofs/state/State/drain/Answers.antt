@@ -1,8 +1,7 @@
-use Rattle.std.proofs.Common.{◌≡◌, ℕ, ◌⊎◌, length, get_or, pos, ◌<ℤ◌, sym, refl, ◌∙◌, inl, inr, ⊎_elim, rules}
-use Rattle.theory.specs.Levels.{Paired}
+use Rattle.std.proofs.Common.{◌≡◌, pos, ◌<ℤ◌, sym, ◌∙◌, inl, inr, rules}
 use Rattle.graph.proofs.Pushes.{arcs_paired}
 use Rattle.search.specs.declared.search.Search.{Search}
-use Rattle.search.specs.Residuals.{Scene, net, step}
+use Rattle.search.specs.Residuals.{Scene, step}
 use Rattle.search.specs.Trees.{at, Seen}
 use Rattle.search.proofs.Trees.{seen_cases, home_more}
 use Rattle.level.specs.Levels.{scene_of}

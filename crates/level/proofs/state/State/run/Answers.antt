@@ -1,4 +1,4 @@
-use Rattle.std.proofs.Common.{ℕ, get_or, ◌∙◌, below_more}
+use Rattle.std.proofs.Common.{get_or, ◌∙◌, below_more}
 use Rattle.graph.proofs.Pushes.{arcs_paired}
 use Rattle.search.specs.Residuals.{Scene}
 use Rattle.search.proofs.Trees.{home_more}

@@ -1,7 +1,7 @@
-use Rattle.std.proofs.Common.{◌≡◌, ℕ, ◌<◌, ◌≢◌, get_or, sym, refl, ap, arith, rules}
+use Rattle.std.proofs.Common.{◌≡◌, ℕ, ◌<◌, get_or, refl, ap, arith, rules}
 use Rattle.search.specs.declared.search.Search.{Search}
-use Rattle.search.specs.Residuals.{Scene, scene, net, room_at}
-use Rattle.search.specs.Trees.{reach, Seen, Added}
+use Rattle.search.specs.Residuals.{Scene, scene, net}
+use Rattle.search.specs.Trees.{reach, Added}
 use Rattle.search.proofs.Trees.{room_for, went_more, seen_sent, quiet_more, added_seen}
 use Rattle.search.proofs.search.Search.extend.Goals as goal
 

@@ -1,8 +1,8 @@
-use Rattle.std.proofs.Common.{◌≡◌, ℕ, suc, ◌-◌, ◌<◌, length, get_or, ap, ◌∙◌, arith}
+use Rattle.std.proofs.Common.{◌≡◌, ℕ, suc, ◌-◌, get_or, ap, ◌∙◌, arith}
 use Rattle.graph.specs.Arcs.{last}
 use Rattle.graph.proofs.Links.{last_below}
 use Rattle.search.specs.declared.search.Search.{Search}
-use Rattle.search.specs.Residuals.{Scene, scene, net}
+use Rattle.search.specs.Residuals.{Scene, scene}
 use Rattle.search.specs.Trees.{FollowedFrom}
 use Rattle.search.proofs.Trees.{grown_none, grown_more, home_none, home_more, scan_none, scan_more}
 use Rattle.search.proofs.search.Search.scan.Goals as goal
