@@ -1,6 +1,5 @@
-// The words with which entries answer: why an input is turned away, what the checker says, and what is said where a picture
-// is found. A crate of its own, since
-// the derived comparisons are dear to prove and seldom change.
+// The words with which entries answer: why an input is turned away, what the checker says, and what is said where a
+// picture is found. A crate of its own, since the derived comparisons are dear to prove and seldom change.
 #![tactic(auto)]
 
 mod refusal;
