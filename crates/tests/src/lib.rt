@@ -1,9 +1,11 @@
-// Tests of fields and sheets: each refusal with its place, at its edge and one past it, what pictures cost, and each
-// word of the checker.
+// Tests of fields, sheets and choices: each refusal with its place, at its edge and one past it, what pictures cost, each
+// word of the checker, and lowest cheapest choices.
 #![tactic(auto)]
 
 #[cfg(test)]
 mod cases;
+#[cfg(test)]
+mod choices;
 #[cfg(test)]
 mod refused;
 #[cfg(test)]

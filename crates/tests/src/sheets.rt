@@ -626,7 +626,7 @@ fn each_word_at_its_edge(rt: HostRuntime) -> Result<(), Fail> {
 }
 
 // As many copies of a few numbers.
-fn repeated(heap: Global, numbers: &[u32], times: u32) -> Result<Vec<u32>, AllocError> {
+pub(super) fn repeated(heap: Global, numbers: &[u32], times: u32) -> Result<Vec<u32>, AllocError> {
     let mut all = Vec::new(heap);
     for _ in 0..times {
         for number in numbers {
