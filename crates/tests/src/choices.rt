@@ -73,7 +73,7 @@ const CHOICES: [Choice<'static>; 8] = [
 ];
 
 impl Choice<'_> {
-    // What is written over what stood there.
+    // The slices that are lent hold other numbers, and are written over.
     fn holds(&self, rt: &impl Abort, heap: Global) -> Result<(), Fail> {
         let places = self.picture.len() as u64;
         let mut picture = vec![in heap; 7u32; self.picture.len()]?;
