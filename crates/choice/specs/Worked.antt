@@ -1,27 +1,25 @@
--- The arcs of a field, laid down. Assumes nothing: these are definitions.
-use Rattle.std.specs.Prelude.{◌≡◌, ℕ, ◌*◌, ◌<◌, List, length, slice_index}
-use Rattle.field.specs.Given.{sides_of}
-use Rattle.graph.specs.Arcs.{last, BothWays}
-use Rattle.choice.specs.declared.work.Arcs.{Arcs}
-use Rattle.choice.specs.declared.work.Room.{Room}
+-- What is laid down before a field with two values is solved. Assumes nothing: these are definitions.
+use Rattle.std.specs.Prelude.{◌≡◌, ℕ, ◌<◌, List, length, ℤ, pos, ◌-ℤ◌, slice_index, slice_index_or}
+use Rattle.field.specs.declared.view.FieldView.{FieldView}
+use Rattle.field.specs.Given.{cost_in}
+use Rattle.graph.specs.Owned.{Owned, OfField}
+use Rattle.search.specs.declared.search.Search.{Search}
+use Rattle.search.specs.Trees.{Sized}
 
--- the arcs of all sides are laid down, tails and prices by arc, and the index is built, firsts by place and nexts by arc
-pub record Laid (n : ℕ) (sides tails prices firsts nexts : List ℕ) : Type 0 where
-  pub ends : length tails ≡ 2 * sides_of sides
-  pub each : length prices ≡ 2 * sides_of sides
-  pub heads : length firsts ≡ n
-  pub follows : length nexts ≡ 2 * sides_of sides
-  pub ways : (k : ℕ) → k < sides_of sides → BothWays sides tails prices k
-  pub headed : (i : ℕ) → i < n → slice_index firsts i ≡ last tails (length tails) i
-  pub followed : (e : ℕ) → e < length tails → slice_index nexts e ≡ last tails e (slice_index tails e)
+-- all of n places, in their order
+pub record Listed (n : ℕ) (members : List ℕ) : Type 0 where
+  pub many : length members ≡ n
+  pub each : (i : ℕ) → i < n → slice_index members i ≡ i
 
-abbrev pub LaidIn : ℕ → List ℕ → Arcs → Type 0
-LaidIn n sides a = Laid n sides a.ends.now a.prices.now a.heads.now a.nexts.now
+-- the step of each of n places with no flows: what yes costs less what no costs
+pub record Unflowed (n : ℕ) (costs : List ℕ) (steps : List ℤ) : Type 0 where
+  pub many : length steps ≡ n
+  pub each : (i : ℕ) → i < n → slice_index_or steps i (pos 0) ≡ pos (cost_in 1 costs i 1) -ℤ pos (cost_in 1 costs i 0)
 
--- there is memory for n places and m sides
-pub record Roomy (n m : ℕ) (r : Room) : Type 0 where
-  pub ends : length r.ends.now ≡ 2 * m
-  pub prices : length r.prices.now ≡ 2 * m
-  pub heads : length r.heads.now ≡ n
-  pub nexts : length r.nexts.now ≡ 2 * m
-  pub members : length r.members.now ≡ n
+-- all of it, of a field: its graph, its places, their steps, and a search with room for every place
+pub record Laid (f : FieldView) (own : Owned) (all : List ℕ) (first : List ℤ) (reach : Search) : Type 0 where
+  pub two : f.top ≡ 1
+  pub graph : OfField f own
+  pub members : Listed f.places all
+  pub steps : Unflowed f.places f.costs.now first
+  pub search : Sized f.places reach

@@ -1,31 +1,39 @@
-ghost use Rattle.std.specs.Prelude.{◌≡◌, ℕ, ◌*◌, ◌<◌, ◌≤◌, length, pos, ◌-ℤ◌, slice_index, slice_index_or};
-ghost use Rattle.field.specs.Limits.{most_places};
-ghost use Rattle.field.specs.Given.{cost_in};
+ghost use Rattle.std.specs.Prelude.{◌≡◌, ◌≤◌, IfOk, IsOk};
+ghost use Rattle.graph.specs.Few.{few_places};
+ghost use Rattle.choice.specs.Worked.{Unflowed, Listed};
+
+use field::FieldView;
+use graph::FEW_PLACES;
+use smallvec::SmallVec;
+use std::alloc::{AllocError, Global};
 
 // The step of each place with no flows: what yes costs less what no costs.
-pub(super) fn lay_steps(costs: &[u32], steps: &mut [i64])
-    requires few { length steps.old ≤ most_places }
-    requires each { length costs.now ≡ length steps.old * 2 }
-    ensures { (i : ℕ) → i < length steps.old → slice_index_or steps.new i (pos 0) ≡ pos (cost_in 1 costs.now i 1) -ℤ pos (cost_in 1 costs.now i 0) }
+pub(super) fn lay_steps(
+    heap: Global,
+    field: &FieldView,
+) -> Result<SmallVec<i64, FEW_PLACES>, AllocError>
+    requires two { field.now.top ≡ 1 }
+    ensures laid { IfOk result (λ own. Unflowed field.now.places field.now.costs.now own.items) }
+    ensures small { field.now.places ≤ few_places → IsOk result }
 {
-    for i in 0..steps.len() {
-        steps[i] = i64::from(costs[2 * i + 1]) - i64::from(costs[2 * i]);
+    let mut steps = SmallVec::with_capacity(heap, field.places)?;
+    for row in field.costs.chunks_exact(2) {
+        steps.push_reserved(i64::from(row[1]) - i64::from(row[0]));
     }
+    Ok(steps)
 }
 
-// Lists all places.
-pub(super) fn list_places(members: &mut [u32])
-    requires { length members.old ≤ most_places }
-    ensures { (i : ℕ) → i < length members.old → slice_index members.new i ≡ i }
+// All places, in their order; pushed on, since of `collect` it is not said that it succeeds where there is room.
+pub(super) fn list_places(
+    heap: Global,
+    field: &FieldView,
+) -> Result<SmallVec<u32, FEW_PLACES>, AllocError>
+    ensures listed { IfOk result (λ own. Listed field.now.places own.items) }
+    ensures small { field.now.places ≤ few_places → IsOk result }
 {
-    for i in 0..members.len() {
-        members[i] = i as u32;
+    let mut places = SmallVec::with_capacity(heap, field.places)?;
+    for place in 0..field.places as u32 {
+        places.push_reserved(place);
     }
-}
-
-// Writes zeros.
-pub(super) fn clear(numbers: &mut [u32])
-    ensures { (i : ℕ) → slice_index numbers.new i ≡ 0 }
-{
-    numbers.fill(0);
+    Ok(places)
 }

@@ -4,7 +4,6 @@
 
 mod entry;
 mod lay;
-mod solve;
 mod work;
 
 pub use entry::choose;

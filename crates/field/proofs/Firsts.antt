@@ -71,3 +71,7 @@ found_step t n e (inr h) below = (n, omega arith, h.0, h.1)
 pub first_found : {E : Type 0} (t : ℕ → Tried E) (n : ℕ) (e : E) → first t n ≡ Err e → Found t n e
 first_found t zero e h = absurd (let z : ◌≡◌ {A = ℕ} 0 1 = cc in omega arith)
 first_found t (suc n) e h = found_step t n e (both_err (first t n) (t n) e h) (first_found t n e)
+
+-- the first that applies, by what is before it
+pub first_at : {E : Type 0} (t : ℕ → Tried E) (n k : ℕ) (e : E) → ((j : ℕ) → j < k → t j ≡ Ok tt) → t k ≡ Err e → k < n → Err e ≡ first t n
+first_at t n k e before here l = first_here t k n e (first_none t k before) here l

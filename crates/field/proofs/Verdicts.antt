@@ -1,16 +1,16 @@
 -- What a verdict says, read back for every place, value and side, and the other way round.
-use Rattle.std.proofs.Common.{◌≡◌, ℕ, zero, suc, ◌+◌, ◌-◌, ◌*◌, ◌%◌, ◌<◌, ◌≤◌, true, eqb, ◌⊎◌, List, length, get_or, IfOk, Ok, Err, refl, inl, inr, mul-le-mul, arith}
+use Rattle.std.proofs.Common.{◌≡◌, ℕ, zero, suc, ◌+◌, ◌-◌, ◌*◌, ◌%◌, ◌<◌, ◌≤◌, true, eqb, ◌⊎◌, List, length, get_or, Ok, Err, refl, inl, inr, mul-le-mul, arith}
 use Rattle.std.proofs.lemmas.List.{get_or_past}
 use Rattle.std.proofs.lemmas.Bool.{cases_lt, leb-true, ltb-true, eqb-true, and_parts, le-leb, lt-ltb, and_from, or_right}
 use Rattle.std.proofs.lemmas.Bool.Decides.{nat_tests}
 use Rattle.field.specs.Limits.{most_top, most_cost, most_price}
+use Rattle.word.specs.declared.refusal.Refusal.{Refusal}
 use Rattle.field.specs.declared.rooms.Rooms.{Rooms}
 use Rattle.theory.specs.Fields.{Sound}
 use Rattle.field.specs.Given.{cost_in, side_in, sides_of, field_in}
 use Rattle.field.specs.Firsts.{first}
-use Rattle.field.specs.Rules.{Verdict, sizes, lengths, rooms_fit, cost_rule, side_rule, convex_test, convex_rule, convex_place, value_rule, values_fit, verdict}
+use Rattle.field.specs.Rules.{sizes, lengths, rooms_fit, cost_rule, side_rule, convex_test, convex_rule, convex_place, value_rule, values_fit, fits_looked_at, verdict}
 use Rattle.field.specs.Taken.{Sized, Laid, Taken}
-use Rattle.field.specs.Costed.{both_rooms}
 use Rattle.field.proofs.Firsts.{both_ok, must_hold, must_pass, first_all, first_none}
 
 pub sizes_taken : (places top : ℕ) → sizes places top ≡ Ok tt → Sized places top
@@ -78,30 +78,23 @@ convex_taken places top costs h i v l m =
     (must_hold _ _ (first_all (convex_rule i (cost_in top costs i)) top (first_all (convex_place top costs) places h i l) (suc v) m))
 
 -- nothing applies, so all this holds
-pub taken_by : (places top : ℕ) (costs sides : List ℕ) (rooms : Rooms) → verdict places top costs sides rooms ≡ Ok tt → Taken places top costs sides
-taken_by places top costs sides rooms h =
-    let s = both_ok _ _ h in
-    let l = both_ok _ _ s.1 in
-    let r = both_ok _ _ l.1 in
+pub looked_taken :
+    (places top : ℕ) (costs sides : List ℕ) (rooms : Rooms) → Sized places top → Laid places top costs sides → fits_looked_at places top costs sides rooms ≡ Ok tt →
+    Taken places top costs sides
+looked_taken places top costs sides rooms size long h =
+    let r = both_ok _ _ h in
     let k = both_ok _ _ r.1 in
     let e = both_ok _ _ k.1 in
-    let size = sizes_taken places top s.0 in
     let side = side_taken places (length costs) sides e.0 in
     record {
       sized = size;
-      laid = lengths_taken places top costs sides size l.0;
+      laid = long;
       cheap = cost_taken costs k.0;
       starts = λ j m. (side j m).0;
       ends = λ j m. (side j m).1;
       priced = λ j m. (side j m).2;
       convex = convex_taken places top costs e.1;
     }
-
-pub rooms_by : (places top : ℕ) (costs sides : List ℕ) (rooms : Rooms) → verdict places top costs sides rooms ≡ Ok tt → rooms_fit places sides rooms ≡ Ok tt
-rooms_by places top costs sides rooms h =
-    let s = both_ok (sizes places top) _ h in
-    let l = both_ok (lengths places top costs sides) _ s.1 in
-    (both_ok (rooms_fit places sides rooms) _ l.1).0
 
 pub sound_by : (places top : ℕ) (costs sides : List ℕ) → Taken places top costs sides → Sound (field_in places top costs sides)
 sound_by places top costs sides t =
@@ -114,7 +107,7 @@ cost_passes costs k h = must_pass _ _ (le-leb _ _ h)
 side_passes : (places count : ℕ) (sides : List ℕ) (k : ℕ) → (side_in sides k).first < places → (side_in sides k).second < places → (side_in sides k).price ≤ most_price → side_rule places count sides k ≡ Ok tt
 side_passes places count sides k s e p = must_pass _ _ (and_from _ _ (and_from _ _ (lt-ltb _ _ s) (lt-ltb _ _ e)) (le-leb _ _ p))
 
-convex_passes : (i : ℕ) (cost : ℕ → ℕ) (v : ℕ) → ((w : ℕ) → suc w ≡ v → cost (suc w) + cost (suc w) ≤ cost w + cost (suc (suc w))) → convex_rule i cost v ≡ Ok tt
+pub convex_passes : (i : ℕ) (cost : ℕ → ℕ) (v : ℕ) → ((w : ℕ) → suc w ≡ v → cost (suc w) + cost (suc w) ≤ cost w + cost (suc (suc w))) → convex_rule i cost v ≡ Ok tt
 convex_passes i cost zero h = refl
 convex_passes i cost (suc v) h =
     let below : suc v - 1 ≡ v = omega arith in
@@ -138,14 +131,11 @@ verdict_by places top costs sides rooms t h =
     (λ v m. convex_passes i (cost_in top costs i) v (λ w e. t.convex i w l (omega arith)))) in
     rw (size, long, h, cheap, inside, convex)
 
-pub made_if : (r : Verdict) (P : Type 0) → (r ≡ Ok tt → P) → IfOk r (λ _. P)
-made_if (Ok u) P h = h refl
-made_if (Err e) P h = tt
-
--- a picture and flows that are lent have the lengths that they should
-pub rooms_taken :
-    (places top : ℕ) (costs sides picture flows : List ℕ) → verdict places top costs sides (both_rooms picture flows) ≡ Ok tt →
-    (length picture ≡ places) × (length flows ≡ 2 * sides_of sides)
-rooms_taken places top costs sides picture flows h =
-    let fit = rooms_by places top costs sides (both_rooms picture flows) h in
-    (grind (arith, nat_tests), grind (arith, nat_tests))
+-- so none of rules 3 to 5 turns it away
+pub not_looked :
+    (places top : ℕ) (costs sides : List ℕ) (rooms : Rooms) (e : Refusal) → Taken places top costs sides → rooms_fit places sides rooms ≡ Ok tt →
+    fits_looked_at places top costs sides rooms ≡ Err e → ⊥
+not_looked places top costs sides rooms e t fit stops =
+    let passes = verdict_by places top costs sides rooms t fit in
+    let looked : fits_looked_at places top costs sides rooms ≡ Ok tt = (both_ok (lengths places top costs sides) _ (both_ok (sizes places top) _ passes).1).1 in
+    absurd (let z : ◌≡◌ {A = ℕ} 0 1 = cc in omega arith)

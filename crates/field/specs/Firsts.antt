@@ -17,3 +17,8 @@ and_then (Err e) s = Err e
 abbrev pub first : {E : Type 0} → (ℕ → Tried E) → ℕ → Tried E
 first t zero = Ok tt
 first t (suc n) = and_then (first t n) (t n)
+
+-- an answer with its value forgotten
+abbrev pub said : {T E : Type 0} → Result T E → Tried E
+said (Ok x) = Ok tt
+said (Err e) = Err e

@@ -4,4 +4,5 @@ pub mod Firsts
 pub mod Rules
 pub mod Taken
 pub mod Viewed
+pub mod Sides
 pub mod Costed

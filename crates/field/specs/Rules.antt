@@ -57,15 +57,18 @@ convex_place top costs i = first (convex_rule i (cost_in top costs i)) top
 abbrev pub value_rule : ℕ → List ℕ → ℕ → Verdict
 value_rule top picture i = must (nat_le (slice_index picture i) top) (ValueTooHigh i)
 
+-- rules 3 to 5, of numbers of which there are as many as a field wants, and the rooms lent with them
+abbrev pub fits_looked_at : ℕ → ℕ → (costs sides : List ℕ) → Rooms → Verdict
+fits_looked_at places top costs sides rooms =
+    and_then (rooms_fit places sides rooms)
+    (and_then (first (cost_rule costs) (length costs))
+    (and_then (first (side_rule places (length costs) sides) (sides_of sides))
+    (first (convex_place top costs) places)))
+
 -- rules 1 to 5, of a field and the rooms lent with it
 abbrev pub verdict : ℕ → ℕ → (costs sides : List ℕ) → Rooms → Verdict
 verdict places top costs sides rooms =
-    and_then (sizes places top)
-    (and_then (lengths places top costs sides)
-    (and_then (rooms_fit places sides rooms)
-    (and_then (first (cost_rule costs) (length costs))
-    (and_then (first (side_rule places (length costs) sides) (sides_of sides))
-    (first (convex_place top costs) places)))))
+    and_then (sizes places top) (and_then (lengths places top costs sides) (fits_looked_at places top costs sides rooms))
 
 -- rule 6, of a picture
 abbrev pub values_fit : ℕ → List ℕ → Verdict

@@ -1,20 +1,36 @@
-ghost use Rattle.std.specs.Prelude.{◌≡◌, ℕ, ◌+◌, ◌*◌, ◌<◌, ◌≤◌, length, MatchOption, OnOk, slice_index};
+ghost use Rattle.std.specs.Prelude.{◌≡◌, ℕ, suc, ◌+◌, ◌*◌, ◌<◌, ◌≤◌, length, MatchOption, OnOk, slice_index};
 ghost use Rattle.theory.specs.Fields.{Of, value_costs, side_costs, total};
 ghost use Rattle.field.specs.Limits.{most_places, most_top, most_sides, most_cost, most_side_cost};
-ghost use Rattle.field.specs.Given.{picture_in, field_in};
+ghost use Rattle.field.specs.Given.{cost_in, picture_in};
+ghost use Rattle.field.specs.Rules.{values_fit};
 ghost use Rattle.field.specs.Viewed.{RowOf, field_of, side_of};
-ghost use Rattle.field.specs.Costed.{answered, picture_fits, one_picture, all_fits};
+ghost use Rattle.field.specs.Costed.{answered, picture_fits};
 
-use super::convex::place_costs;
-use super::rooms::Rooms;
-use super::rules::values_fit;
 use super::side::Side;
-use super::verdict::examine;
+use super::sides::{Sides, triples};
+use super::verdict::first_above;
 use super::view::FieldView;
 use word::Refusal;
 
+// One place's costs by value, as an array with room for every value there can be; past the top it has 0.
+fn place_costs(costs: &[u32], top: usize, place: usize) -> [u32; 256]
+    requires low { top ≤ most_top }
+    requires within { place * suc top + suc top ≤ length costs.now }
+    ensures size { length result ≡ 256 }
+    ensures each { (v : ℕ) → v ≤ top → slice_index result v ≡ cost_in top costs.now place v }
+    ensures past { (v : ℕ) → top < v → slice_index result v ≡ 0 }
+{
+    let mut row = [0; 256];
+    let start = place * (top + 1);
+    row[0..top + 1].copy_from_slice(&costs[start..start + (top + 1)]);
+    row
+}
+
 impl FieldView<'_> {
-    // What the values of a picture cost at their places.
+    // That a picture has a value for each place the parts of `cost_of` ask anew: a lent slice does not know its field.
+
+    // What the values of a picture cost at their places. By place and value, as costs lie: chunks beside the picture would
+    // be no plainer.
     fn values_cost(&self, picture: &[u32]) -> u64
         requires long { length picture.now ≡ self.now.places }
         requires low { (i : ℕ) → slice_index picture.now i ≤ self.now.top }
@@ -36,10 +52,22 @@ impl FieldView<'_> {
         ensures small { result ≤ most_sides * most_side_cost }
     {
         let mut cost = 0;
-        for k in 0..self.sides.len() / 3 {
-            cost += Side::read(self.sides, k).cost(picture);
+        for (_, side) in self.sides() {
+            cost += side.cost(picture);
         }
         cost
+    }
+
+    // 6: each value of a picture.
+    fn values_fit(&self, picture: &[u32]) -> Result<(), Refusal>
+        requires { length picture.now ≡ self.now.places }
+        ensures answer { result ≡ values_fit self.now.top picture.now }
+        ensures taken { OnOk result ((i : ℕ) → slice_index picture.now i ≤ self.now.top) }
+    {
+        match first_above(picture, self.top) {
+            Some(place) => Err(Refusal::ValueTooHigh(place as u32)),
+            None => Ok(()),
+        }
     }
 
     // What a picture of the field costs. One of another length, or with a value above the top, is turned away.
@@ -50,7 +78,7 @@ impl FieldView<'_> {
         if picture.len() != self.places {
             return Err(Refusal::PictureLength);
         }
-        values_fit(self.top, picture)?;
+        self.values_fit(picture)?;
         Ok(self.values_cost(picture) + self.sides_cost(picture))
     }
 
@@ -64,44 +92,18 @@ impl FieldView<'_> {
         Some(place_costs(self.costs, self.top, place))
     }
 
+    // All sides in their order, each with its number.
+    pub fn sides(&self) -> Sides<'_>
+        ensures numbers { result.numbers.now ≡ self.now.sides.now }
+        ensures start { result.next ≡ 0 }
+    {
+        Sides::of(self.sides)
+    }
+
     // The k-th side; none past the last.
     pub fn side(&self, k: usize) -> Option<Side>
         ensures { MatchOption result ((field_of self.now).sides ≤ k) (λ s. (k < (field_of self.now).sides) × (side_of s ≡ (field_of self.now).side k)) }
     {
-        if k < self.sides.len() / 3 {
-            Some(Side::read(self.sides, k))
-        } else {
-            None
-        }
+        triples(self.sides).get(k).map(|triple| Side::from(*triple))
     }
-}
-
-// What a picture costs, over lent numbers that nobody has looked at: the first of rules 1 to 6 that applies, or the cost.
-pub fn picture_cost<'a>(
-    places: u64,
-    top: u64,
-    costs: &'a [u32],
-    sides: &'a [u32],
-    picture: &[u32],
-) -> Result<u64, Refusal>
-    ensures answer { result ≡ answered (all_fits places top costs.now sides.now (one_picture picture.now) picture.now) (total (field_in places top costs.now sides.now) (picture_in picture.now)) }
-    ensures of { OnOk result (Of (field_in places top costs.now sides.now) (picture_in picture.now)) }
-{
-    examine(
-        places,
-        top,
-        costs,
-        sides,
-        Rooms {
-            picture: Some(picture.len()),
-            flows: None,
-        },
-    )?;
-    let field = FieldView {
-        places: places as usize,
-        top: top as usize,
-        costs,
-        sides,
-    };
-    field.cost_of(picture)
 }

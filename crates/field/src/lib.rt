@@ -3,15 +3,17 @@
 
 mod convex;
 mod cost;
+mod lent;
 mod limits;
+mod measured;
 mod rooms;
-mod rules;
 mod side;
+mod sides;
 mod verdict;
 mod view;
 
-pub use cost::picture_cost;
+pub use lent::Lent;
 pub use rooms::Rooms;
 pub use side::Side;
-pub use verdict::examine;
+pub use sides::Sides;
 pub use view::FieldView;

@@ -14,21 +14,22 @@ pub struct Side {
     pub price: u32,
 }
 
-impl Side {
-    // The k-th side of lent numbers, three numbers a side.
-    pub(super) fn read(sides: &[u32], k: usize) -> Side
-        requires { k < sides_of sides.now }
-        ensures first { result.first ≡ (side_in sides.now k).first }
-        ensures second { result.second ≡ (side_in sides.now k).second }
-        ensures price { result.price ≡ (side_in sides.now k).price }
-    {
+// A side is lent as three numbers.
+impl From<[u32; 3]> for Side {
+    ghost use Rattle.field.specs.Sides.{IsRead};
+
+    ghost from_gives = { IsRead };
+
+    fn from([first, second, price]: [u32; 3]) -> Self {
         Side {
-            first: sides[3 * k] as usize,
-            second: sides[3 * k + 1] as usize,
-            price: sides[3 * k + 2],
+            first: first as usize,
+            second: second as usize,
+            price,
         }
     }
+}
 
+impl Side {
     // Whether both places are places of the field, and the price is allowed.
     pub(super) fn fits(self, places: usize) -> bool
         ensures { result ≡ side_test places (record { first = self.first; second = self.second; price = self.price }) }

@@ -1,47 +1,74 @@
-ghost use Rattle.std.specs.Prelude.{◌≡◌, Ok, OnOk};
-ghost use Rattle.theory.specs.Fields.{Sound};
-ghost use Rattle.field.specs.Given.{field_in};
-ghost use Rattle.field.specs.Rules.{rooms_fit, verdict};
-ghost use Rattle.field.specs.Taken.{Taken};
+ghost use Rattle.std.specs.Prelude.{◌≡◌, ℕ, ◌<◌, ◌≤◌, length, MatchOption, slice_index};
+ghost use Rattle.field.specs.Firsts.{first};
+ghost use Rattle.field.specs.Given.{sides_of};
+ghost use Rattle.field.specs.Rules.{fits, rooms_fit, cost_rule, side_rule, fits_looked_at};
 
-use super::convex::all_convex;
+use super::limits::MOST_COST;
+use super::measured::Measured;
 use super::rooms::Rooms;
-use super::rules::{costs_fit, lengths_fit, rooms_fit, sides_fit, sizes_fit};
+use super::sides::Sides;
 use word::Refusal;
 
-// The rules in their order.
-fn first_refusal(
-    places: u64,
-    top: u64,
-    costs: &[u32],
-    sides: &[u32],
-    rooms: Rooms,
-) -> Result<(), Refusal>
-    ensures { result ≡ verdict places top costs.now sides.now rooms }
+// The first of some numbers that is above a limit.
+pub(super) fn first_above(numbers: &[u32], most: usize) -> Option<usize>
+    ensures { MatchOption result ((j : ℕ) → j < length numbers.now → slice_index numbers.now j ≤ most) (λ k. (k < length numbers.now) × (most < slice_index numbers.now k) × ((j : ℕ) → j < k → slice_index numbers.now j ≤ most)) }
 {
-    sizes_fit(places, top)?;
-    let places = places as usize;
-    let top = top as usize;
-    lengths_fit(places, top, costs, sides)?;
-    rooms_fit(places, sides, rooms)?;
-    costs_fit(costs)?;
-    sides_fit(places, costs.len(), sides)?;
-    all_convex(costs, top, places)
+    numbers.iter().position(|number| *number as usize > most)
 }
 
-// Whether lent numbers are a field, with rooms of the right lengths: nothing applies, or exactly the first of rules 1
-// to 5 that does. What is taken is within all limits and sound, and all that is within them is taken.
-pub fn examine(
-    places: u64,
-    top: u64,
-    costs: &[u32],
-    sides: &[u32],
-    rooms: Rooms,
-) -> Result<(), Refusal>
-    ensures answer { result ≡ verdict places top costs.now sides.now rooms }
-    ensures taken { OnOk result (Taken places top costs.now sides.now) }
-    ensures sound { OnOk result (Sound (field_in places top costs.now sides.now)) }
-    ensures complete { Taken places top costs.now sides.now → rooms_fit places sides.now rooms ≡ Ok tt → result ≡ Ok tt }
+// Room that is lent has to have the length that is wanted.
+fn room_fits(lent: Option<usize>, wanted: usize) -> bool
+    ensures { result ≡ fits lent wanted }
 {
-    first_refusal(places, top, costs, sides, rooms)
+    lent.map_or(true, |length| length == wanted)
+}
+
+impl Measured<'_> {
+    // 3: how much room for a picture and for flows.
+    pub(super) fn rooms_fit(&self, rooms: Rooms) -> Result<(), Refusal>
+        ensures { result ≡ rooms_fit self.now.places self.now.sides.now rooms }
+    {
+        if !room_fits(rooms.picture, self.places) {
+            return Err(Refusal::PictureLength);
+        }
+        if !room_fits(rooms.flows, 2 * (self.sides.len() / 3)) {
+            return Err(Refusal::FlowsLength);
+        }
+        Ok(())
+    }
+
+    // 4: each cost.
+    pub(super) fn costs_fit(&self) -> Result<(), Refusal>
+        ensures { result ≡ first (cost_rule self.now.costs.now) (length self.now.costs.now) }
+    {
+        match first_above(self.costs, MOST_COST as usize) {
+            Some(k) => Err(Refusal::CostTooHigh(k as u32)),
+            None => Ok(()),
+        }
+    }
+
+    // 4: each side, counted on from the costs.
+    pub(super) fn sides_fit(&self) -> Result<(), Refusal>
+        ensures { result ≡ first (side_rule self.now.places (length self.now.costs.now) self.now.sides.now) (sides_of self.now.sides.now) }
+    {
+        for (k, side) in Sides::of(self.sides) {
+            if !side.fits(self.places) {
+                return Err(Refusal::SideOutOfRange {
+                    costs: self.costs.len() as u32,
+                    side: k as u32,
+                });
+            }
+        }
+        Ok(())
+    }
+
+    // 3 to 5, in their order.
+    pub(super) fn fits(&self, rooms: Rooms) -> Result<(), Refusal>
+        ensures { result ≡ fits_looked_at self.now.places self.now.top self.now.costs.now self.now.sides.now rooms }
+    {
+        self.rooms_fit(rooms)?;
+        self.costs_fit()?;
+        self.sides_fit()?;
+        self.all_convex()
+    }
 }

@@ -1,2 +1,5 @@
-pub mod Links
+pub mod Counts
+pub mod Filling
+pub mod Leaving
 pub mod Pushes
+pub mod Sides

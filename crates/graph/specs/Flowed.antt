@@ -1,5 +1,5 @@
 -- What a push along an arc does to flows, and what a view of a graph with flows stands for. Assumes nothing: these are definitions.
-use Rattle.std.specs.Prelude.{◌≡◌, ℕ, ◌+◌, ◌-◌, ◌<◌, ◌≤◌, cond, List, length, ◌==◌, ◌≢◌, slice_index, slice_set}
+use Rattle.std.specs.Prelude.{◌≡◌, ℕ, ◌+◌, ◌-◌, ◌<◌, ◌≤◌, cond, List, ◌==◌, ◌≢◌, slice_index, slice_set}
 use Rattle.theory.specs.Nets.{Net, Flows, net_out, net_into}
 use Rattle.theory.specs.Levels.{partner}
 use Rattle.graph.specs.declared.graph.Graph.{Graph}
@@ -7,7 +7,7 @@ use Rattle.graph.specs.Arcs.{net_in}
 
 -- the net of a graph
 abbrev pub graph_net : Graph → Net
-graph_net g = net_in (length g.heads.now) g.ends.now g.prices.now
+graph_net g = net_in g.places g.arcs.now
 
 -- an amount at one place, and nothing elsewhere
 abbrev pub only : (p amount : ℕ) → ℕ → ℕ

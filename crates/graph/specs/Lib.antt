@@ -1,2 +1,5 @@
+pub mod Few
 pub mod Arcs
+pub mod Fit
 pub mod Flowed
+pub mod Owned

@@ -7,11 +7,13 @@ ghost use Rattle.graph.specs.Flowed.{graph_net, WithinPrices, pushed, Pushed};
 use super::graph::Graph;
 
 impl Graph<'_> {
+    // That an arc is one of the graph each method asks anew: a number alone does not know its graph.
+
     // The other direction of an arc's side.
     fn partner(&self, arc: usize) -> usize
-        requires { arc < length self.now.ends.now }
+        requires { arc < length self.now.arcs.now }
         ensures value { result ≡ other arc }
-        ensures within { result < length self.now.ends.now }
+        ensures within { result < length self.now.arcs.now }
         ensures apart { result ≢ arc }
     {
         2 * (arc / 2) + (1 - arc % 2)
@@ -19,38 +21,38 @@ impl Graph<'_> {
 
     // The place that an arc leaves.
     pub fn tail(&self, arc: usize) -> usize
-        requires { arc < length self.now.ends.now }
+        requires { arc < length self.now.arcs.now }
         ensures place { result ≡ ((graph_net self.now).arc arc).from }
-        ensures inside { result < length self.now.heads.now }
+        ensures inside { result < self.now.places }
     {
-        self.ends[arc] as usize
+        self.arcs[arc].end as usize
     }
 
     // The place that it leads to.
     pub fn head(&self, arc: usize) -> usize
-        requires { arc < length self.now.ends.now }
+        requires { arc < length self.now.arcs.now }
         ensures place { result ≡ ((graph_net self.now).arc arc).to }
-        ensures inside { result < length self.now.heads.now }
+        ensures inside { result < self.now.places }
     {
-        self.ends[self.partner(arc)] as usize
+        self.arcs[self.partner(arc)].end as usize
     }
 
     // The room of an arc: what is left of its price, and what its partner carries.
     pub fn room(&self, flows: &[u32], arc: usize) -> u32
-        requires arc { arc < length self.now.ends.now }
-        requires each { length flows.now ≡ length self.now.ends.now }
+        requires arc { arc < length self.now.arcs.now }
+        requires each { length flows.now ≡ length self.now.arcs.now }
         requires within { WithinPrices (graph_net self.now) (flows_in flows.now) }
         ensures answer { result ≡ room_of (graph_net self.now) (flows_in flows.now) arc }
         ensures small { result ≤ 2 * most_price }
     {
-        room_left(self.prices[arc], flows[arc], flows[self.partner(arc)])
+        room_left(self.arcs[arc].price, flows[arc], flows[self.partner(arc)])
     }
 
     // Sends an amount along an arc that has room for it: first it is taken back from what its partner carries, then the
     // rest is added to what it carries itself.
     pub fn push(&self, flows: &mut [u32], arc: usize, amount: u32)
-        requires arc { arc < length self.now.ends.now }
-        requires each { length flows.old ≡ length self.now.ends.now }
+        requires arc { arc < length self.now.arcs.now }
+        requires each { length flows.old ≡ length self.now.arcs.now }
         requires within { WithinPrices (graph_net self.now) (flows_in flows.old) }
         requires amount { amount ≤ room_of (graph_net self.now) (flows_in flows.old) arc }
         ensures { Pushed (graph_net self.now) (flows_in flows.old) (flows_in flows.new) arc amount }

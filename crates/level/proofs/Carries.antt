@@ -1,11 +1,16 @@
 -- An amount is carried along the path of a search, arc by arc, from the sink back to the root.
-use Rattle.std.proofs.Common.{◌≡◌, ℕ, ◌<◌, ◌≤◌, ◌≢◌, ◌⊎◌, sym, refl, ap, ◌∙◌, subst, inl, inr, arith}
+use Rattle.std.proofs.Common.{◌≡◌, ℕ, List, ◌<◌, ◌≤◌, ◌≢◌, ◌⊎◌, sym, ap, ◌∙◌, subst, inl, inr, arith}
 use Rattle.theory.specs.Nets.{Net, Flows}
 use Rattle.theory.specs.Levels.{partner, room, room_of, Paired}
-use Rattle.graph.specs.Flowed.{only, Carried, WithinPrices, Pushed}
+use Rattle.field.specs.Given.{flows_in}
+use Rattle.graph.specs.Flowed.{only, Carried, Pushed}
+use Rattle.graph.proofs.Pushes.{arcs_paired}
 use Rattle.search.specs.declared.search.Search.{Search}
 use Rattle.search.specs.Residuals.{Scene, net, flow, Open}
-use Rattle.search.specs.Trees.{at, slot, parent, reach, Seen, Led, Tree}
+use Rattle.search.specs.Trees.{count, at, slot, parent, reach, Seen, Led, Tree}
+use Rattle.search.proofs.Trees.{seen_slot}
+use Rattle.level.specs.declared.level.Level.{Level}
+use Rattle.level.specs.Levels.{scene_of, root_of, Searched}
 use Rattle.level.specs.Carries.{Carrying}
 
 -- the room of an arc depends on its flow and its partner's alone
@@ -22,7 +27,7 @@ carried_more n x y z p q r t a e first second i =
 
 -- the path of a tree: a place that was reached and is not the root was reached by an arc
 module _ (v : Scene) (s : Search) (tree : Tree v s) where
-  led_by : (p k : ℕ) → k < s.count → at s k ≡ p → p ≢ at s 0 → Led v s (slot s p) (parent s p)
+  led_by : (p k : ℕ) → k < count s → at s k ≡ p → p ≢ at s 0 → Led v s (slot s p) (parent s p)
   led_by p k l e other =
       let first : 1 ≤ k = positive k (λ z. other (sym e ∙ ap (at s) z)) in
       let here : slot s p ≡ k = ap (slot s) (sym e) ∙ tree.ordered.slots k l in
@@ -34,20 +39,8 @@ module _ (v : Scene) (s : Search) (tree : Tree v s) where
   pub seen_led : (p : ℕ) → Seen s p → p ≢ at s 0 → Led v s (slot s p) (parent s p)
   seen_led p (k, l, e) other = led_by p k l e other
 
-  seen_stands : (p : ℕ) → Seen s p → (slot s p < s.count) × (at s (slot s p) ≡ p)
-  seen_stands p (k, l, e) =
-      let here : slot s p ≡ k = ap (slot s) (sym e) ∙ tree.ordered.slots k l in
-      (omega arith, ap (at s) here ∙ e)
-
   pub seen_open : (p : ℕ) → Seen s p → Open v p
   seen_open p (k, l, e) = rw e at (tree.opened k l)
-
-  pub seen_inside : (p : ℕ) → Seen s p → p < v.places
-  seen_inside p (k, l, e) = rw e at (tree.ordered.inside k l)
-
-  pub carrying_start : (sink a : ℕ) → WithinPrices (net v) (flow v) → Seen s sink → a ≤ reach s sink → Carrying v s (flow v) sink a sink
-  carrying_start sink a within seen enough =
-      record { within = within; carried = λ i. refl; seen = seen; enough = enough; unharmed = λ e l m n. refl; outside = λ e l m. refl }
 
   -- one arc of the path
   module _ (paired : Paired (net v)) (y : Flows) (sink a p : ℕ) (c : Carrying v s y sink a p) (other : p ≢ at s 0) where
@@ -55,16 +48,10 @@ module _ (v : Scene) (s : Search) (tree : Tree v s) where
     led = seen_led p c.seen other
 
     to : ((net v).arc (parent s p)).to ≡ p
-    to = led.to ∙ (seen_stands p c.seen).1
+    to = led.to ∙ (seen_slot s p c.seen).1
 
     from_seen : Seen s ((net v).arc (parent s p)).from
-    from_seen = (slot s ((net v).arc (parent s p)).from, omega (arith, led.earlier, (seen_stands p c.seen).0), led.from)
-
-    pub carrying_arc : parent s p < (net v).arcs
-    carrying_arc = led.arc
-
-    pub carrying_less : slot s ((net v).arc (parent s p)).from < slot s p
-    carrying_less = led.earlier
+    from_seen = (slot s ((net v).arc (parent s p)).from, omega (arith, led.earlier, (seen_slot s p c.seen).0), led.from)
 
     pub carrying_room : a ≤ room_of (net v) y (parent s p)
     carrying_room =
@@ -74,7 +61,7 @@ module _ (v : Scene) (s : Search) (tree : Tree v s) where
         let starts : slot s ((net v).arc (partner e)).from ≡ slot s p = ap (slot s) (paired.back e led.arc ∙ to) in
         let leads : slot s ((net v).arc (partner e)).to ≡ slot s ((net v).arc e).from = ap (slot s) (paired.forth e led.arc) in
         let back : y (partner e) ≡ flow v (partner e) = c.unharmed (partner e) (paired.partnered e led.arc) (omega arith) (omega (arith, led.earlier)) in
-        let stands : at s (slot s p) ≡ p = (seen_stands p c.seen).1 in
+        let stands : at s (slot s p) ≡ p = (seen_slot s p c.seen).1 in
         let much : reach s (at s (slot s p)) ≡ reach s p = ap (reach s) stands in
         omega (arith, led.room, c.enough, room_same (λ d. ((net v).arc d).price) y (flow v) e here back)
 
@@ -107,7 +94,7 @@ module _ (v : Scene) (s : Search) (tree : Tree v s) where
         let e : ℕ = parent s p in
         let q : ℕ = ((net v).arc e).from in
         let less : slot s q < slot s p = led.earlier in
-        let stands : at s (slot s p) ≡ p = (seen_stands p c.seen).1 in
+        let stands : at s (slot s p) ≡ p = (seen_slot s p c.seen).1 in
         let much : reach s (at s (slot s p)) ≡ reach s p = ap (reach s) stands in
         record {
           within = pushed.within;
@@ -120,3 +107,24 @@ module _ (v : Scene) (s : Search) (tree : Tree v s) where
               c.unharmed d l (omega arith) (omega arith);
           outside = λ d l shut. let apart = closed_apart d shut in pushed.others d apart.0 apart.1 ∙ c.outside d l shut;
         }
+
+-- the arc by which place p was reached: the amount has room on it, and once it is pushed it has been carried from the arc's start
+pub record ArcCarried (v : Scene) (s : Search) (y : Flows) (sink a e : ℕ) : Type 0 where
+  pub room : a ≤ room_of (net v) y e
+  pub more : (z : Flows) (q : ℕ) → Pushed (net v) y z e a → q ≡ ((net v).arc e).from → Carrying v s z sink a q
+
+pub carry_arc :
+    (l : Level) (sink a p root e : ℕ) (flows : List ℕ) → Searched l → Carrying (scene_of l) l.search.now (flows_in flows) sink a p → root ≡ root_of l →
+    p ≢ root → e ≡ parent l.search.now p → ArcCarried (scene_of l) l.search.now (flows_in flows) sink a e
+carry_arc l sink a p root e flows searched c start apart led =
+    let v : Scene = scene_of l in
+    let s : Search = l.search.now in
+    let other : p ≢ at s 0 = subst (λ r. p ≢ r) start apart in
+    let paired : Paired (net v) = arcs_paired v.places v.arcs l.task.graph.laid.even in
+    subst (ArcCarried v s (flows_in flows) sink a) (sym led)
+    (record {
+      room = carrying_room v s searched.tree paired (flows_in flows) sink a p c other;
+      more =
+          λ z q pushed from.
+          subst (Carrying v s z sink a) (sym from) (carrying_more v s searched.tree paired (flows_in flows) sink a p c other z pushed);
+    })

@@ -1,3 +1,5 @@
 pub mod Carries
+pub mod Closes
 pub mod Closings
 pub mod Augments
+pub mod Works

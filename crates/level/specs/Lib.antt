@@ -1,3 +1,4 @@
+pub mod Scenes
 pub mod Moves
 pub mod Levels
 pub mod Carries

@@ -1,8 +1,11 @@
 -- What sending flow inside the open places, and closing places, does to a level. Assumes nothing: these are definitions.
 use Rattle.std.specs.Prelude.{◌≡◌, ℕ, ◌<◌, Bool, true, ◌⊎◌, length, ℤ, pos, ◌+ℤ◌, ◌≤ℤ◌, ◌<ℤ◌, slice_index}
 use Rattle.theory.specs.Nets.{Net, Flows, net_out, net_into}
+use Rattle.graph.specs.Arcs.{Furnished}
 use Rattle.graph.specs.Flowed.{WithinPrices}
+use Rattle.search.specs.declared.search.Search.{Search}
 use Rattle.search.specs.Residuals.{Scene, net, flow, step, Open, room_at}
+use Rattle.search.specs.Trees.{Sized}
 
 -- b lies between a and 0, so that a step that was negative only rises, to at most 0, one that was positive only falls, to at least 0, and 0 stays
 pub record Nearer (a b : ℤ) : Type 0 where
@@ -18,11 +21,13 @@ pub record Moved (n : Net) (opened : ℕ → Type 0) (x y : Flows) (s t : ℕ �
   pub flows : (e : ℕ) → e < n.arcs → (opened (n.arc e).from → ⊥) ⊎ (opened (n.arc e).to → ⊥) → y e ≡ x e
 
 -- flows, steps and marks as many as there are arcs and places, and flows within prices
-pub record Fitting (v : Scene) : Type 0 where
-  pub flows : length v.flows ≡ length v.ends
-  pub steps : length v.steps ≡ v.places
-  pub marks : length v.marks ≡ v.places
-  pub within : WithinPrices (net v) (flow v)
+abbrev pub Fitting : Scene → Type 0
+Fitting v = Furnished v.places v.arcs v.flows (length v.steps) (length v.marks)
+
+-- what holds of every level: its flows, steps and marks fit its graph, and its search has room for every place
+pub record Facts (v : Scene) (s : Search) : Type 0 where
+  pub fitting : Fitting v
+  pub sized : Sized v.places s
 
 -- a place that was open and has the mark of yes now
 abbrev pub Closed : (v w : Scene) → (mark i : ℕ) → Type 0

@@ -1,121 +1,103 @@
-ghost use Rattle.std.specs.Prelude.{◌≡◌, ℕ, ◌<◌, ◌≤◌, length, pos, ◌+ℤ◌, ◌-ℤ◌, ◌≤ℤ◌, ◌<ℤ◌, slice_index_or, slice_set};
+ghost use Rattle.std.specs.Prelude.{◌≡◌, ◌≢◌, ℕ, ◌<◌, ◌≤◌, length, pos, ◌+ℤ◌, ◌-ℤ◌, ◌≤ℤ◌, ◌<ℤ◌, slice_index_or};
 ghost use Rattle.field.specs.Given.{flows_in};
 ghost use Rattle.search.specs.Residuals.{step, Open};
-ghost use Rattle.search.specs.Trees.{at, reach, Sized, Home, Seen, Tree, Explored, Sink, Found};
-ghost use Rattle.level.specs.Moves.{Fitting, Closing};
-ghost use Rattle.level.specs.Levels.{scene_of, Same};
+ghost use Rattle.search.specs.Trees.{count, reach, Seen, Explored, Sink, Found};
+ghost use Rattle.level.specs.Levels.{scene_of, root_of, Searched, Same, Worked};
 ghost use Rattle.level.specs.Carries.{Carrying};
 
-use super::state::State;
-use super::task::Task;
+use super::level::Level;
 use graph::Residual;
-use search::Search;
 
-impl State<'_> {
+impl Level<'_, '_> {
+    // That a search has just been made each part after it asks, since a level is one before it too.
+
     // Searches from a source for the nearest sink.
-    pub(super) fn nearest_sink(
-        &self,
-        task: &Task,
-        search: &mut Search,
-        source: usize,
-    ) -> Option<usize>
-        requires fitting { Fitting (scene_of task.now self.now) }
-        requires sized { Sized (scene_of task.now self.now).places search.old }
-        requires inside { source < (scene_of task.now self.now).places }
-        requires from { Open (scene_of task.now self.now) source }
-        requires source { step (scene_of task.now self.now) source ≤ℤ pos 0 }
-        ensures tree { Tree (scene_of task.now self.now) search.new }
-        ensures sized { Sized (scene_of task.now self.now).places search.new }
-        ensures home { Home search.old search.new }
-        ensures first { at search.new 0 ≡ source }
-        ensures found { Found (scene_of task.now self.now) search.new (Explored (scene_of task.now self.now) search.new search.new.count) result }
+    pub(super) fn nearest_sink(&mut self, source: usize) -> Option<usize>
+        requires inside { source < (scene_of self.old).places }
+        requires from { Open (scene_of self.old) source }
+        requires source { step (scene_of self.old) source <ℤ pos 0 }
+        ensures searched { Searched self.new }
+        ensures first { root_of self.new ≡ source }
+        ensures found { Found (scene_of self.new) self.new.search.now (Explored (scene_of self.new) self.new.search.now (count self.new.search.now)) result }
+        ensures scene { scene_of self.new ≡ scene_of self.old }
+        ensures same { Same self.old self.new }
     {
+        // Lent by `&mut *`, the slices are known to come back as they were; by `&`, only their lengths would be.
         let residual = Residual {
-            graph: task.graph,
-            flows: self.flows,
-            steps: self.steps,
-            marks: self.marks,
-            group: task.group,
+            graph: self.task.graph,
+            flows: &mut *self.flows,
+            steps: &mut *self.steps,
+            marks: &mut *self.marks,
+            group: self.task.group,
         };
-        search.run(&residual, source)
+        self.search.run(&residual, source)
     }
 
-    // Sends an amount along the path by which a search reached a sink, from the sink back to the root.
-    fn carry(&mut self, task: &Task, search: &Search, sink: usize, amount: u32)
-        requires fitting { Fitting (scene_of task.now self.old) }
-        requires tree { Tree (scene_of task.now self.old) search.now }
-        requires sized { Sized (scene_of task.now self.old).places search.now }
-        requires seen { Seen search.now sink }
-        requires enough { amount ≤ reach search.now sink }
-        ensures carrying { Carrying (scene_of task.now self.old) search.now (flows_in self.new.flows.now) sink amount (at search.now 0) }
-        ensures long { length self.new.flows.now ≡ length self.old.flows.now }
+    // Sends an amount along the path by which a search reached a sink, from the sink back to the root: arc by arc, as
+    // far as the path goes, which no count says before.
+    fn carry(&mut self, sink: usize, amount: u32)
+        requires searched { Searched self.old }
+        requires seen { Seen self.old.search.now sink }
+        requires enough { amount ≤ reach self.old.search.now sink }
+        ensures carrying { Carrying (scene_of self.old) self.old.search.now (flows_in self.new.flows.now) sink amount (root_of self.old) }
         ensures steps { self.new.steps.now ≡ self.old.steps.now }
         ensures marks { self.new.marks.now ≡ self.old.marks.now }
         ensures same { Same self.old self.new }
     {
-        let root = search.queue[0] as usize;
+        let graph = self.task.graph;
+        let flows = &mut *self.flows;
+        let search = &*self.search;
+        let root = search.root();
         let mut place = sink;
         while place != root {
-            let arc = search.parents[place] as usize;
-            task.graph.push(self.flows, arc, amount);
-            place = task.graph.tail(arc);
+            let arc = search.arc_to(place);
+            graph.push(flows, arc, amount);
+            place = graph.tail(arc);
         }
     }
 
     // How much is sent to a sink: what the path has room for, and no more than the source has and the sink takes.
-    fn amount(&self, search: &Search, source: usize, sink: usize) -> u32
-        requires source { source < length self.now.steps.now }
-        requires sink { sink < length self.now.steps.now }
-        requires reached { sink < length search.now.reach.now }
-        requires wanting { slice_index_or self.now.steps.now source (pos 0) <ℤ pos 0 }
-        requires wanted { pos 0 <ℤ slice_index_or self.now.steps.now sink (pos 0) }
-        requires some { 1 ≤ reach search.now sink }
+    fn amount(&self, sink: usize) -> u32
+        requires searched { Searched self.now }
+        requires sink { Sink (scene_of self.now) self.now.search.now sink }
         ensures some { 1 ≤ result }
-        ensures path { result ≤ reach search.now sink }
-        ensures surplus { (slice_index_or self.now.steps.now source (pos 0) +ℤ pos result) ≤ℤ pos 0 }
-        ensures need { pos result ≤ℤ slice_index_or self.now.steps.now sink (pos 0) }
+        ensures path { result ≤ reach self.now.search.now sink }
+        ensures surplus { (step (scene_of self.now) (root_of self.now) +ℤ pos result) ≤ℤ pos 0 }
+        ensures need { pos result ≤ℤ step (scene_of self.now) sink }
     {
-        let surplus = self.steps[source].unsigned_abs();
+        let surplus = self.steps[self.search.root()].unsigned_abs();
         let need = self.steps[sink].unsigned_abs();
-        let most = surplus.min(need).min(u64::from(search.reach[sink]));
-        most as u32
+        let most = u32::try_from(surplus.min(need)).unwrap_or(u32::MAX);
+        most.min(self.search.amount_to(sink))
     }
 
     // Sends flow from the root of a search to the sink that it reached: the step of the one rises, that of the other
     // falls, and all others stay.
-    pub(super) fn augment(&mut self, task: &Task, search: &Search, source: usize, sink: usize)
-        requires fitting { Fitting (scene_of task.now self.old) }
-        requires tree { Tree (scene_of task.now self.old) search.now }
-        requires sized { Sized (scene_of task.now self.old).places search.now }
-        requires root { at search.now 0 ≡ source }
-        requires wanting { step (scene_of task.now self.old) source <ℤ pos 0 }
-        requires sink { Sink (scene_of task.now self.old) search.now sink }
-        ensures closing { Closing (scene_of task.now self.old) (scene_of task.now self.new) task.now.yes }
-        ensures rises { step (scene_of task.now self.old) source <ℤ step (scene_of task.now self.new) source }
+    pub(super) fn augment(&mut self, sink: usize)
+        requires searched { Searched self.old }
+        requires sink { Sink (scene_of self.old) self.old.search.now sink }
+        ensures worked { Worked self.old self.new }
+        ensures rises { step (scene_of self.old) (root_of self.old) <ℤ step (scene_of self.new) (root_of self.old) }
         ensures marks { self.new.marks.now ≡ self.old.marks.now }
-        ensures same { Same self.old self.new }
     {
-        let amount = self.amount(search, source, sink);
-        self.carry(task, search, sink, amount);
-        raise(self.steps, source, amount);
-        lower(self.steps, sink, amount);
+        let source = self.search.root();
+        let amount = self.amount(sink);
+        self.carry(sink, amount);
+        settle(self.steps, source, sink, amount);
     }
 }
 
-// A negative step rises by an amount, up to 0 at most.
-fn raise(steps: &mut [i64], place: usize, amount: u32)
-    requires place { place < length steps.old }
-    requires most { (slice_index_or steps.old place (pos 0) +ℤ pos amount) ≤ℤ pos 0 }
-    ensures { steps.new ≡ slice_set steps.old place (slice_index_or steps.old place (pos 0) +ℤ pos amount) }
+// What was sent from a source to a sink raises the step of the one and lowers that of the other, to 0 at most.
+fn settle(steps: &mut [i64], source: usize, sink: usize, amount: u32)
+    requires source { source < length steps.old }
+    requires sink { sink < length steps.old }
+    requires some { 1 ≤ amount }
+    requires surplus { (slice_index_or steps.old source (pos 0) +ℤ pos amount) ≤ℤ pos 0 }
+    requires need { pos amount ≤ℤ slice_index_or steps.old sink (pos 0) }
+    ensures source { slice_index_or steps.new source (pos 0) ≡ slice_index_or steps.old source (pos 0) +ℤ pos amount }
+    ensures sink { slice_index_or steps.new sink (pos 0) ≡ slice_index_or steps.old sink (pos 0) -ℤ pos amount }
+    ensures others { (i : ℕ) → i ≢ source → i ≢ sink → slice_index_or steps.new i (pos 0) ≡ slice_index_or steps.old i (pos 0) }
 {
-    steps[place] += i64::from(amount);
-}
-
-// A positive step falls by an amount, down to 0 at least.
-fn lower(steps: &mut [i64], place: usize, amount: u32)
-    requires place { place < length steps.old }
-    requires most { pos amount ≤ℤ slice_index_or steps.old place (pos 0) }
-    ensures { steps.new ≡ slice_set steps.old place (slice_index_or steps.old place (pos 0) -ℤ pos amount) }
-{
-    steps[place] -= i64::from(amount);
+    steps[source] += i64::from(amount);
+    steps[sink] -= i64::from(amount);
 }

@@ -4,8 +4,8 @@
 
 mod augment;
 mod cut;
-mod state;
+mod level;
 mod task;
 
-pub use state::State;
+pub use level::Level;
 pub use task::Task;

@@ -1,16 +1,16 @@
 -- What a search looks at. Assumes nothing: these are definitions.
-use Rattle.std.specs.Prelude.{◌≡◌, ℕ, List, length, ℤ, pos, slice_index, slice_index_or}
+use Rattle.std.specs.Prelude.{◌≡◌, ℕ, List, ℤ, pos, slice_index, slice_index_or}
 use Rattle.theory.specs.Nets.{Net, Flows}
 use Rattle.theory.specs.Levels.{room_of}
 use Rattle.field.specs.Given.{flows_in}
+use Rattle.graph.specs.declared.arc.Arc.{Arc}
 use Rattle.graph.specs.declared.residual.Residual.{Residual}
 use Rattle.graph.specs.Arcs.{net_in}
 
--- the numbers of a residual graph: how many places, for each arc the place that it leaves, its price and its flow, and for each place its step and its mark; open are the places with the group's mark
+-- what a residual graph has: how many places, its arcs and for each the flow, and for each place its step and its mark; open are the places with the group's mark
 pub record Scene : Type 0 where
   pub places : ℕ
-  pub ends : List ℕ
-  pub prices : List ℕ
+  pub arcs : List Arc
   pub flows : List ℕ
   pub steps : List ℤ
   pub marks : List ℕ
@@ -19,9 +19,8 @@ pub record Scene : Type 0 where
 abbrev pub scene : Residual → Scene
 scene r =
     record {
-      places = length r.graph.heads.now;
-      ends = r.graph.ends.now;
-      prices = r.graph.prices.now;
+      places = r.graph.places;
+      arcs = r.graph.arcs.now;
       flows = r.flows.now;
       steps = r.steps.now;
       marks = r.marks.now;
@@ -29,7 +28,7 @@ scene r =
     }
 
 abbrev pub net : Scene → Net
-net v = net_in v.places v.ends v.prices
+net v = net_in v.places v.arcs
 
 abbrev pub flow : Scene → Flows
 flow v = flows_in v.flows

@@ -1,8 +1,9 @@
 // Breadth-first search over arcs with room, from a source to the nearest sink, inside the open places.
 #![tactic(auto)]
 
+mod reached;
 mod scan;
 mod search;
-mod tree;
 
+pub use reached::Reached;
 pub use search::Search;

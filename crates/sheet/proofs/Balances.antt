@@ -1,8 +1,8 @@
 -- Laws of balances: what flows out of each place less what flows in.
-use Rattle.std.proofs.Common.{◌≡◌, ℕ, suc, ◌+◌, ◌-◌, ◌*◌, ◌<◌, ◌≤◌, Bool, true, false, cond, eqb, leb, ◌≢◌, ◌⊎◌, List, length, get_or, take, drop, replicate, ℤ, pos, negsuc, ◌+ℤ◌, sym, refl, ◌∙◌, inl, inr, add-one, arith, length-set, get_or-set_other, get_or-set_same}
-use Rattle.std.proofs.lemmas.List.{take-replicate}
+use Rattle.std.proofs.Common.{◌≡◌, ℕ, suc, ◌+◌, ◌*◌, ◌<◌, ◌≤◌, cond, eqb, ◌≢◌, ◌⊎◌, List, length, get_or, ℤ, pos, negsuc, ◌+ℤ◌, sym, refl, inl, inr, add-one, arith, length-set, get_or-set_other, get_or-set_same}
 use Rattle.std.proofs.lemmas.Int.{ints}
-use Rattle.std.proofs.lemmas.Bool.{cases_eq, cases_lt, eq-eqb, ne_eqb, le-leb, lt-leb}
+use Rattle.std.proofs.lemmas.Bool.Decides.{nat_tests}
+use Rattle.std.proofs.lemmas.Bool.{cases_eq, eq-eqb, ne_eqb}
 use Rattle.theory.specs.Nets.{Flows, no_dearer_test}
 use Rattle.theory.specs.Fields.{Side, Field}
 use Rattle.theory.specs.Sheets.{there, back, at_ends}
@@ -24,12 +24,8 @@ both_counted_at xs s a b i k l =
     let within : s.second < length ys = rw length-set l in
     omega (arith, ints, counted_by xs s.first a b i k (cases_eq i s.first), counted_by ys s.second b a i within (cases_eq i s.second))
 
-at_most : (t : Bool) (a : ℕ) → cond t a 0 ≤ a
-at_most true a = omega arith
-at_most false a = omega arith
-
 ends_most : (s : Side) (a b i : ℕ) → a ≤ most_price → b ≤ most_price → at_ends s a b i ≤ 2 * most_price
-ends_most s a b i h k = omega (arith, at_most (eqb s.first i) a, at_most (eqb s.second i) b)
+ends_most s a b i h k = grind arith
 
 -- one side more
 pub counted_more :
@@ -43,24 +39,12 @@ counted_more f x k xs ys s a b p q r start end h l e counted =
       few_into = λ i. rw add-one (omega (arith, counted.few_into i, ends_most (f.side k) (back x k) (there x k) i l h));
     }
 
--- tests of facts that follow from one another agree
-leb_same_by : (p q r s : ℕ) → (p ≤ q → r ≤ s) → (r ≤ s → p ≤ q) → (q < p) ⊎ (p ≤ q) → leb p q ≡ leb r s
-leb_same_by p q r s there back (inl l) = lt-leb p q l ∙ sym (lt-leb r s (elim (cases_lt s r) [ inl m ↦ m | inr m ↦ absurd (let k = back m in omega arith) ]))
-leb_same_by p q r s there back (inr l) = le-leb p q l ∙ sym (le-leb r s (there l))
-
-leb_same : (p q r s : ℕ) → (p ≤ q → r ≤ s) → (r ≤ s → p ≤ q) → leb p q ≡ leb r s
-leb_same p q r s there back = leb_same_by p q r s there back (cases_lt q p)
-
 -- the test with a balance is the test with what flows out and in
 pub balance_test :
     (cost : ℕ → ℕ) (z : ℤ) (out into a b c d : ℕ) → z +ℤ pos into ≡ pos out → c ≡ cost a → d ≡ cost b → balanced_test z c a d b ≡ no_dearer_test cost out into a b
 balance_test cost (pos n) out into a b c d e p q =
     let all : out ≡ n + into = omega (arith, ints) in
-    rw (all, ← p, ← q) (leb_same _ _ _ _ (λ h. omega arith) (λ h. omega arith))
+    rw (all, ← p, ← q) (grind (arith, nat_tests))
 balance_test cost (negsuc n) out into a b c d e p q =
     let all : into ≡ suc n + out = omega (arith, ints) in
-    rw (all, ← p, ← q) (leb_same _ _ _ _ (λ h. omega arith) (λ h. omega arith))
-
--- a part from the start of equal numbers, as it is lent on
-pub front_of_equals : (n k : ℕ) (z : ℤ) → k ≤ n → take (k - 0) (drop 0 (replicate n z)) ≡ replicate k z
-front_of_equals n k z l = let whole : k - 0 ≡ k = omega arith in rw whole (take-replicate k n z l)
+    rw (all, ← p, ← q) (grind (arith, nat_tests))

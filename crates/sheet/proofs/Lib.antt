@@ -1,3 +1,4 @@
 pub mod Balances
+pub mod Pairs
 pub mod Rules
 pub mod Words

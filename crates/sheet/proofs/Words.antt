@@ -1,6 +1,6 @@
 -- What the rules tried in their order come to: a sheet, or the first rule that is broken; and the other way round.
-use Rattle.std.proofs.Common.{◌≡◌, ℕ, suc, ◌*◌, ◌<◌, ◌≤◌, Bool, true, false, ◌⊎◌, List, length, Ok, Err, sym, refl, ◌∙◌, subst, inl, inr, arith}
-use Rattle.std.proofs.lemmas.Bool.Decides.{nat_tests}
+use Rattle.std.proofs.Common.{◌≡◌, ℕ, suc, ◌<◌, ◌≤◌, Bool, true, false, ◌⊎◌, List, Ok, Err, sym, refl, ◌∙◌, subst, inl, inr, arith}
+use Rattle.std.proofs.lemmas.Bool.{true_from_ne_false}
 use Rattle.theory.specs.Pictures.{Picture}
 use Rattle.theory.specs.Nets.{Flows}
 use Rattle.theory.specs.Fields.{Field, total, Cheapest}
@@ -8,21 +8,16 @@ use Rattle.theory.specs.Sheets.{there, back, out_of, into, TightAt, BestAt, tigh
 use Rattle.theory.proofs.Sheets.{tight_by, tight_not, best_by, best_not, sheet_right}
 use Rattle.field.specs.Firsts.{Tried, first}
 use Rattle.word.specs.declared.refusal.Refusal.{Refusal}
-use Rattle.field.specs.Rules.{Verdict, verdict}
-use Rattle.field.specs.Given.{sides_of, field_in, picture_in}
+use Rattle.field.specs.Rules.{Verdict}
+use Rattle.field.specs.Given.{field_in, picture_in, flows_in}
+use Rattle.field.specs.Costed.{both_rooms}
+use Rattle.field.proofs.Verdicts.{sizes_taken, lengths_taken, looked_taken, sound_by, values_taken}
 use Rattle.field.proofs.Firsts.{must_pass, must_stop, must_hold, must_say, both_ok, both_err, first_here, first_all, first_none, first_found}
-use Rattle.field.proofs.Verdicts.{taken_by, rooms_by, sound_by, values_taken}
-use Rattle.word.specs.declared.Broken.{Broken}
-use Rattle.word.specs.declared.Broken.TheVariants.{Side, Place}
-use Rattle.word.specs.declared.Word.{Word}
-use Rattle.word.specs.declared.Word.TheVariants as word
-use Rattle.sheet.specs.Given.{flows_in, both_rooms, claim_fits}
-use Rattle.sheet.specs.Words.{side_rule, value_rule, place_rule, rules, word_of, Wanting, Said, FirstBroken, Right, Answer, Accepted}
-
--- a test that does not fail passes
-passes : (b : Bool) → (b ≡ false → ⊥) → b ≡ true
-passes true h = refl
-passes false h = absurd (h refl)
+use Rattle.word.specs.declared.broken.Broken.{Broken}
+use Rattle.word.specs.declared.broken.Broken.TheVariants.{Side, Place}
+use Rattle.word.specs.declared.objection.Objection.TheVariants.{Broken as OfBroken, Refused, NoMemory}
+use Rattle.sheet.specs.Given.{claim_fits}
+use Rattle.sheet.specs.Words.{Word, side_rule, value_rule, place_rule, rules, word_of, Wanting, Said, FirstBroken, Right, Answer, Accepted}
 
 module _ (f : Field) (u : Picture) (x : Flows) where
   -- each rule passes exactly where it holds
@@ -30,7 +25,7 @@ module _ (f : Field) (u : Picture) (x : Flows) where
   side_holds k h = tight_by (f.side k) u (there x k) (back x k) (must_hold _ _ h)
 
   side_passes : (k : ℕ) → TightAt f u x k → side_rule f u x k ≡ Ok tt
-  side_passes k h = must_pass _ _ (passes _ (λ no. tight_not (f.side k) u (there x k) (back x k) no h))
+  side_passes k h = must_pass _ _ (true_from_ne_false _ (λ no. tight_not (f.side k) u (there x k) (back x k) no h))
 
   side_stops : (k : ℕ) → (TightAt f u x k → ⊥) → side_rule f u x k ≡ Err (Side k)
   side_stops k h = stops (tight_at f u x k) refl
@@ -43,7 +38,7 @@ module _ (f : Field) (u : Picture) (x : Flows) where
   value_holds i v h = best_by (f.cost i) (out_of f x i) (into f x i) (u i) v (must_hold _ _ h)
 
   value_passes : (i v : ℕ) → BestAt f u x i v → value_rule f u x i v ≡ Ok tt
-  value_passes i v h = must_pass _ _ (passes _ (λ no. best_not (f.cost i) (out_of f x i) (into f x i) (u i) v no h))
+  value_passes i v h = must_pass _ _ (true_from_ne_false _ (λ no. best_not (f.cost i) (out_of f x i) (into f x i) (u i) v no h))
 
   value_stops : (i v : ℕ) → (BestAt f u x i v → ⊥) → value_rule f u x i v ≡ Err (Place i v)
   value_stops i v h = stops (best_at f u x i v) refl
@@ -124,16 +119,16 @@ module _ (f : Field) (u : Picture) (x : Flows) where
   word_right (Err b) cost h e = (refl, rules_broken b h)
 
   right_word : (w : Word) → Right (Ok tt) f u x w → word_of (rules f u x) (total f u) ≡ w
-  right_word (word.Cheapest cost) h = rw (sheet_rules h.1, h.2)
-  right_word (word.BrokenAt b) h = rw (broken_rules b h.1)
-  right_word (word.Refused e) h = cc
-  right_word word.NoMemory h = absurd h
+  right_word (Ok cost) h = rw (sheet_rules h.1, h.2)
+  right_word (Err (OfBroken b)) h = rw (broken_rules b h.1)
+  right_word (Err (Refused e)) h = cc
+  right_word (Err NoMemory) h = absurd h
 
-  refused_word : (e : Refusal) (w : Word) → Right (Err e) f u x w → word.Refused e ≡ w
-  refused_word e (word.Cheapest cost) h = let z = h.0 in cc
-  refused_word e (word.BrokenAt b) h = let z = h.0 in cc
-  refused_word e (word.Refused d) h = cc
-  refused_word e word.NoMemory h = absurd h
+  refused_word : (e : Refusal) (w : Word) → Right (Err e) f u x w → ◌≡◌ {A = Word} (Err (Refused e)) w
+  refused_word e (Ok cost) h = let z = h.0 in cc
+  refused_word e (Err (OfBroken b)) h = let z = h.0 in cc
+  refused_word e (Err (Refused d)) h = cc
+  refused_word e (Err NoMemory) h = absurd h
 
   pub said_answer : (t : Verdict) (r : Word) → Said f r t (rules f u x) (total f u) → Answer t f u x r
   said_answer (Ok o) r (inl e) =
@@ -162,14 +157,10 @@ pub taken_cheapest :
     Sheet (field_in places top costs sides) (picture_in picture) (flows_in flows) → Cheapest (field_in places top costs sides) (picture_in picture)
 taken_cheapest places top costs sides picture flows h s =
     let b = both_ok _ _ h in
-    let taken = taken_by places top costs sides (both_rooms picture flows) b.0 in
+    let sized = both_ok _ _ b.0 in
+    let laid = both_ok _ _ sized.1 in
+    let size = sizes_taken places top sized.0 in
+    let long = lengths_taken places top costs sides size laid.0 in
+    let taken = looked_taken places top costs sides (both_rooms picture flows) size long laid.1 in
     sheet_right (field_in places top costs sides) (picture_in picture) (flows_in flows) (sound_by places top costs sides taken)
     (λ i l. values_taken top picture b.1 i) s
-
--- and they have the lengths that they should
-pub rooms_taken :
-    (places top : ℕ) (costs sides picture flows : List ℕ) → verdict places top costs sides (both_rooms picture flows) ≡ Ok tt →
-    (length picture ≡ places) × (length flows ≡ 2 * sides_of sides)
-rooms_taken places top costs sides picture flows h =
-    let fit = rooms_by places top costs sides (both_rooms picture flows) h in
-    (grind (arith, nat_tests), grind (arith, nat_tests))

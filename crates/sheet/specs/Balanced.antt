@@ -27,3 +27,7 @@ both_counted xs s a b = counted_at (counted_at xs s.first a b) s.second b a
 abbrev pub balanced_test : ℤ → (c a d b : ℕ) → Bool
 balanced_test (pos n) c a d b = nat_le (c + n * a) (d + n * b)
 balanced_test (negsuc n) c a d b = nat_le (c + suc n * b) (d + suc n * a)
+
+-- a value that a place can have, with what it costs there
+abbrev pub IsPriced : Field → ℕ → (value cost : ℕ) → Type 0
+IsPriced f i v c = (v ≤ f.top) × (c ≡ f.cost i v)

@@ -1,15 +1,19 @@
 -- What the checker says of a picture and a sheet. Assumes nothing: these are definitions.
-use Rattle.std.specs.Prelude.{◌≡◌, ℕ, suc, ◌<◌, ◌≤◌, ◌⊎◌, Ok, Err}
+use Rattle.std.specs.Prelude.{◌≡◌, ℕ, suc, ◌<◌, ◌≤◌, ◌⊎◌, Ok, Err, Result}
 use Rattle.theory.specs.Pictures.{Picture}
 use Rattle.theory.specs.Nets.{Flows}
 use Rattle.theory.specs.Fields.{Field, total}
 use Rattle.theory.specs.Sheets.{TightAt, BestAt, tight_at, best_at, Sheet}
 use Rattle.field.specs.Firsts.{Tried, must, and_then, first}
 use Rattle.field.specs.Rules.{Verdict}
-use Rattle.word.specs.declared.Broken.{Broken}
-use Rattle.word.specs.declared.Broken.TheVariants.{Side, Place}
-use Rattle.word.specs.declared.Word.{Word}
-use Rattle.word.specs.declared.Word.TheVariants.{Cheapest, BrokenAt, Refused, NoMemory}
+use Rattle.word.specs.declared.broken.Broken.{Broken}
+use Rattle.word.specs.declared.broken.Broken.TheVariants.{Side, Place}
+use Rattle.word.specs.declared.objection.Objection.{Objection}
+use Rattle.word.specs.declared.objection.Objection.TheVariants.{Broken as OfBroken, Refused, NoMemory}
+
+-- what the checker says: what the picture costs, which is cheapest, or why it does not accept
+abbrev pub Word : Type 0
+Word = Result ℕ Objection
 
 -- the rules of a sheet in the order in which they are tried: each side, then each place against each value
 abbrev pub side_rule : Field → Picture → Flows → ℕ → Tried Broken
@@ -26,8 +30,8 @@ rules f u x = and_then (first (side_rule f u x) f.sides) (first (place_rule f u 
 
 -- the word of a claim whose numbers are taken, by the first rule that is broken
 abbrev pub word_of : Tried Broken → ℕ → Word
-word_of (Ok o) cost = Cheapest cost
-word_of (Err b) cost = BrokenAt b
+word_of (Ok o) cost = Ok cost
+word_of (Err b) cost = Err (OfBroken b)
 
 -- a field of so many places is checked with no memory but the stack
 abbrev pub few_places : ℕ
@@ -35,7 +39,11 @@ few_places = 4096
 
 -- there was no memory, of which only larger fields want any
 abbrev pub Wanting : Field → Word → Type 0
-Wanting f r = (r ≡ NoMemory) × (few_places < f.places)
+Wanting f r = (r ≡ Err NoMemory) × (few_places < f.places)
+
+-- the rules of all sides, which come to t, do not pass: the first that is broken, or there was no memory to try them
+abbrev pub Halted : Field → Tried Broken → Objection → Type 0
+Halted f t e = ((b : Broken) × (e ≡ OfBroken b) × (t ≡ Err b)) ⊎ ((e ≡ NoMemory) × (few_places < f.places))
 
 -- the answer is that word, or there was no memory to find it
 abbrev pub Judged : Field → Word → Tried Broken → ℕ → Type 0
@@ -44,7 +52,7 @@ Judged f r t cost = (r ≡ word_of t cost) ⊎ Wanting f r
 -- the answer of any lent numbers, of which the verdict says whether they are taken
 abbrev pub Said : Field → Word → Verdict → Tried Broken → ℕ → Type 0
 Said f r (Ok o) t cost = Judged f r t cost
-Said f r (Err e) t cost = r ≡ Refused e
+Said f r (Err e) t cost = r ≡ Err (Refused e)
 
 -- the first side whose rule is broken
 pub record FirstSide (f : Field) (u : Picture) (x : Flows) (k : ℕ) : Type 0 where
@@ -68,10 +76,10 @@ FirstBroken f u x (Place i v) = FirstPlace f u x i v
 
 -- when a word is right, with its numbers; t says whether the lent numbers are taken. Want of memory is never right: it says nothing of them
 abbrev pub Right : Verdict → Field → Picture → Flows → Word → Type 0
-Right t f u x (Cheapest cost) = (t ≡ Ok tt) × Sheet f u x × (cost ≡ total f u)
-Right t f u x (BrokenAt b) = (t ≡ Ok tt) × FirstBroken f u x b
-Right t f u x (Refused e) = t ≡ Err e
-Right t f u x NoMemory = ⊥
+Right t f u x (Ok cost) = (t ≡ Ok tt) × Sheet f u x × (cost ≡ total f u)
+Right t f u x (Err (OfBroken b)) = (t ≡ Ok tt) × FirstBroken f u x b
+Right t f u x (Err (Refused e)) = t ≡ Err e
+Right t f u x (Err NoMemory) = ⊥
 
 -- the answer is right, and no other word is; or the numbers are taken and there was no memory for a large field
 pub record Answer (t : Verdict) (f : Field) (u : Picture) (x : Flows) (r : Word) : Type 0 where
@@ -80,4 +88,4 @@ pub record Answer (t : Verdict) (f : Field) (u : Picture) (x : Flows) (r : Word)
 
 -- the checker accepts
 abbrev pub Accepted : Word → Type 0
-Accepted r = (cost : ℕ) × (r ≡ Cheapest cost)
+Accepted r = (cost : ℕ) × (r ≡ Ok cost)

@@ -2,15 +2,6 @@ ghost use Rattle.std.specs.Prelude.{◌≡◌, ◌+◌, ◌*◌, ◌<◌, ◌≤
 ghost use Rattle.field.specs.Limits.{most_top};
 ghost use Rattle.sheet.specs.Balanced.{most_flow, counted_at, balanced_test};
 
-// A place's balance with what flows out of it and what flows in counted too.
-fn counted(balance: i64, out: u32, into: u32) -> i64
-    requires low { (neg_ℤ (pos (2 * most_flow))) ≤ℤ balance }
-    requires high { balance ≤ℤ pos (2 * most_flow) }
-    ensures { result ≡ (balance +ℤ pos out) -ℤ pos into }
-{
-    balance + (i64::from(out) - i64::from(into))
-}
-
 // Counts at a place what flows out of it and what flows in; the other places stay as they are.
 pub(super) fn count_at(balance: &mut [i64], place: usize, out: u32, into: u32)
     requires within { place < length balance.old }
@@ -18,7 +9,7 @@ pub(super) fn count_at(balance: &mut [i64], place: usize, out: u32, into: u32)
     requires high { slice_index_or balance.old place (pos 0) ≤ℤ pos (2 * most_flow) }
     ensures { balance.new ≡ counted_at balance.old place out into }
 {
-    balance[place] = counted(balance[place], out, into);
+    balance[place] += i64::from(out) - i64::from(into);
 }
 
 // A value and what it costs at a place.
@@ -26,6 +17,7 @@ pub(super) fn count_at(balance: &mut [i64], place: usize, out: u32, into: u32)
 pub(super) struct Priced {
     pub value: u32,
     pub cost: u32,
+    ghost low: { value ≤ most_top },
 }
 
 // A cost, and so many times the size of a balance.
@@ -41,8 +33,6 @@ fn weighed(cost: u32, size: u64, times: u32) -> u64
 pub(super) fn no_dearer(balance: i64, here: Priced, other: Priced) -> bool
     requires low { (neg_ℤ (pos most_flow)) ≤ℤ balance }
     requires high { balance ≤ℤ pos most_flow }
-    requires value { here.value ≤ most_top }
-    requires other { other.value ≤ most_top }
     ensures { result ≡ balanced_test balance here.cost here.value other.cost other.value }
 {
     let size = balance.unsigned_abs();

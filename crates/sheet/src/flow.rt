@@ -1,4 +1,4 @@
-ghost use Rattle.std.specs.Prelude.{◌≡◌, ℕ, ◌<◌, length, pos, neg_ℤ, ◌≤ℤ◌, slice_index_or};
+ghost use Rattle.std.specs.Prelude.{◌≡◌, ℕ, ◌<◌, length, pos, neg_ℤ, ◌≤ℤ◌, slice_index, slice_index_or};
 ghost use Rattle.theory.specs.Sheets.{tight_test};
 ghost use Rattle.field.specs.Given.{picture_in};
 ghost use Rattle.field.specs.Viewed.{side_of};
@@ -16,6 +16,16 @@ pub(super) struct Flow {
 }
 
 impl Flow {
+    // A side with its two flows, there and back.
+    pub(super) fn of(side: Side, pair: &[u32; 2]) -> Self
+        ensures side { result.side ≡ side }
+        ensures there { result.there ≡ slice_index pair.now 0 }
+        ensures back { result.back ≡ slice_index pair.now 1 }
+    {
+        let [there, back] = *pair;
+        Flow { side, there, back }
+    }
+
     // The rule of a side: both flows within the price, full from the higher place to the lower, and none back.
     pub(super) fn holds(self, picture: &[u32]) -> bool
         requires start { self.side.first < length picture.now }

@@ -3,6 +3,7 @@
 
 mod balance;
 mod claim;
+mod counted;
 mod flow;
 mod places;
 mod sides;

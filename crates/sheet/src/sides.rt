@@ -1,40 +1,39 @@
-ghost use Rattle.std.specs.Prelude.{◌≡◌, ℕ, ◌<◌, length, pos, OnOk, slice_index_or};
+ghost use Rattle.std.specs.Prelude.{◌≡◌, ℕ, ◌<◌, ◌∷◌, [], length, pos, Ok, OnOk, IfOk, IfErr, slice_index_or};
 ghost use Rattle.theory.specs.Sheets.{there, back};
 ghost use Rattle.field.specs.Firsts.{first};
 ghost use Rattle.field.specs.Viewed.{side_of};
-ghost use Rattle.sheet.specs.Claimed.{claim_field, claim_picture, claim_flows};
+ghost use Rattle.sheet.specs.Claimed.{claim_field, claim_picture, claim_flows, sides_tried};
 ghost use Rattle.sheet.specs.Balanced.{Counted};
-ghost use Rattle.sheet.specs.Words.{side_rule};
+ghost use Rattle.sheet.specs.Words.{side_rule, Halted};
 
 use super::claim::Claim;
+use super::counted::{Balances, zeros};
 use super::flow::Flow;
-use word::Broken;
+use std::alloc::Global;
+use word::{Broken, Objection};
 
-impl Claim<'_> {
-    // The k-th side with its flows.
-    fn flow(&self, k: usize) -> Flow
-        requires { k < (claim_field self.now).sides }
-        ensures side { side_of result.side ≡ (claim_field self.now).side k }
-        ensures there { result.there ≡ there (claim_flows self.now) k }
-        ensures back { result.back ≡ back (claim_flows self.now) k }
+impl<'a> Claim<'a> {
+    // The two flows of each side, there and back.
+    #[tactic(auto, using(crate::proofs::Pairs::pair_at))]
+    fn pairs(&self) -> &'a [[u32; 2]]
+        ensures count { length result.now ≡ (claim_field self.now).sides }
+        ensures each { (k : ℕ) → k < (claim_field self.now).sides → slice_index_or result.now k [] ≡ there (claim_flows self.now) k ∷ back (claim_flows self.now) k ∷ [] }
     {
-        Flow {
-            side: self.field.side(k).unwrap(),
-            there: self.flows[2 * k],
-            back: self.flows[2 * k + 1],
-        }
+        let (pairs, _) = self.flows.as_chunks::<2>();
+        pairs
     }
 
-    // The rule of each side, in one pass that counts what flows out of each place less what flows in.
+    // The rule of each side, in one pass that counts what flows out of each place less what flows in. The label leaves it
+    // at the first side whose rule is broken, the form that this project has for such passes.
     pub(super) fn sides_hold(&self, balance: &mut [i64]) -> Result<(), Broken>
         requires room { length balance.old ≡ self.now.field.places }
         requires blank { (i : ℕ) → slice_index_or balance.old i (pos 0) ≡ pos 0 }
-        ensures answer { result ≡ first (side_rule (claim_field self.now) (claim_picture self.now) (claim_flows self.now)) (claim_field self.now).sides }
+        ensures answer { result ≡ sides_tried self.now }
         ensures counted { OnOk result (Counted (claim_field self.now) (claim_flows self.now) (claim_field self.now).sides balance.new) }
     {
         let mut verdict = Ok(());
-        'sides: for k in 0..self.field.sides.len() / 3 {
-            let flow = self.flow(k);
+        'sides: for ((k, side), pair) in self.field.sides().zip(self.pairs()) {
+            let flow = Flow::of(side, pair);
             if !flow.holds(self.picture) {
                 verdict = Err(Broken::Side(k as u32));
                 break 'sides;
@@ -42,5 +41,18 @@ impl Claim<'_> {
             flow.carry(balance);
         }
         verdict
+    }
+
+    // The balances of a claim, where the rule of each side holds.
+    pub(super) fn count(self, heap: Global) -> Result<Balances<'a>, Objection>
+        ensures counted { IfOk result (λ b. (b.claim ≡ self.entry) × (sides_tried self.entry ≡ Ok tt)) }
+        ensures halted { IfErr result (Halted (claim_field self.entry) (sides_tried self.entry)) }
+    {
+        let mut numbers = zeros(heap, self.field.places)?;
+        self.sides_hold(numbers.as_mut_slice())?;
+        Ok(Balances {
+            claim: self,
+            numbers,
+        })
     }
 }

@@ -1,10 +1,12 @@
-use super::sheets::repeated;
+use super::cases::{NO_ROOMS, line, repeated};
 use choice::choose;
+use field::Lent;
+use graph::Arcs;
+use search::Search;
 use sheet::check;
-use std::alloc::{AllocError, Global};
+use std::alloc::Global;
 use std::process::Abort;
 use std::test::*;
-use word::{Outcome, Word};
 
 // A field with the values 0 and 1, its lowest cheapest picture and what that costs.
 #[derive(Clone, Copy)]
@@ -87,20 +89,18 @@ impl Choice<'_> {
                 picture.as_mut_slice(),
                 flows.as_mut_slice(),
             ),
-            Outcome::Smoothed
+            Ok(())
         );
         assert_eq!(rt; picture.as_slice(), self.picture);
+        let lent = Lent {
+            places,
+            top: 1,
+            costs: self.costs,
+            sides: self.sides,
+        };
         assert_eq!(rt;
-            check(
-                heap,
-                places,
-                1,
-                self.costs,
-                self.sides,
-                picture.as_slice(),
-                flows.as_slice(),
-            ),
-            Word::Cheapest(self.cost)
+            check(heap, lent, picture.as_slice(), flows.as_slice()),
+            Ok(self.cost)
         );
         Ok(())
     }
@@ -114,28 +114,13 @@ fn lowest_cheapest_choices(rt: HostRuntime) -> Result<(), Fail> {
     Ok(())
 }
 
-// The sides of a line of places.
-fn line(heap: Global, places: u32, price: u32) -> Result<Vec<u32>, AllocError> {
-    let mut sides = Vec::new(heap);
-    for second in 1..places {
-        sides.push(second - 1)?;
-        sides.push(second)?;
-        sides.push(price)?;
-    }
-    Ok(sides)
-}
-
 // A line of one place more than the stack serves: what its first place wants goes all the way to the last.
 #[test]
 fn long_line_in_heap_memory(rt: HostRuntime) -> Result<(), Fail> {
     let heap = rt.alloc();
     let mut costs = repeated(heap, &[5, 0], 1)?;
-    for _ in 0..1_023 {
-        costs.push(0)?;
-        costs.push(0)?;
-    }
-    costs.push(0)?;
-    costs.push(3)?;
+    costs.extend_from_slice(&[0; 2_046])?;
+    costs.extend_from_slice(&[0, 3])?;
     let sides = line(heap, 1_025, 10)?;
     let picture = repeated(heap, &[1], 1_025)?;
     Choice {
@@ -145,4 +130,42 @@ fn long_line_in_heap_memory(rt: HostRuntime) -> Result<(), Fail> {
         cost: 3,
     }
     .holds(&rt, heap)
+}
+
+// One side more than the stack serves, all between two places that would rather differ: together they cost more.
+#[test]
+fn many_sides_in_heap_memory(rt: HostRuntime) -> Result<(), Fail> {
+    let heap = rt.alloc();
+    let sides = repeated(heap, &[0, 1, 1], 2_049)?;
+    Choice {
+        costs: &[0, 3, 3, 0],
+        sides: sides.as_slice(),
+        picture: &[0, 0],
+        cost: 3,
+    }
+    .holds(&rt, heap)
+}
+
+// A graph and a search larger than the stack serves: two memories that `choose` takes.
+#[test]
+fn large_graph_and_search(rt: HostRuntime) -> Result<(), Fail> {
+    let heap = rt.alloc();
+    let costs = repeated(heap, &[0, 0], 2_000)?;
+    let sides = repeated(heap, &[0, 1_999, 7], 3_000)?;
+    let lent = Lent {
+        places: 2_000,
+        top: 1,
+        costs: costs.as_slice(),
+        sides: sides.as_slice(),
+    };
+    let Ok(field) = lent.examine(NO_ROOMS) else {
+        return Err(Fail::new("turned away"));
+    };
+    let arcs = Arcs::of(heap, &field)?;
+    let graph = arcs.graph();
+    assert_eq!(rt; graph.arcs.len(), 6_000);
+    assert_eq!(rt; graph.leaving(0).len(), 3_000);
+    assert_eq!(rt; graph.leaving(1).len(), 0);
+    assert_eq!(rt; Search::new(heap, 2_000)?.reached().len(), 0);
+    Ok(())
 }

@@ -1,8 +1,9 @@
-use field::picture_cost;
+use super::cases::line;
+use field::Lent;
+use sheet::check;
 use std::alloc::{AllocError, Global};
 use std::process::Abort;
 use std::test::*;
-use word::Word;
 
 // How a value's cost grows with its distance from the measured value.
 #[derive(Clone, Copy)]
@@ -164,34 +165,18 @@ impl Row {
         Ok(costs)
     }
 
-    fn sides(&self, heap: Global) -> Result<Vec<u32>, AllocError> {
-        let mut sides = Vec::new(heap);
-        let mut first = 0u32;
-        for _ in self.measured.iter().skip(1) {
-            let second = first.saturating_add(1);
-            sides.push(first)?;
-            sides.push(second)?;
-            sides.push(self.price)?;
-            first = second;
-        }
-        Ok(sides)
-    }
-
     fn holds(&self, rt: &impl Abort, heap: Global) -> Result<(), Fail> {
-        let lent = self.costs(heap)?;
-        let joined = self.sides(heap)?;
-        let costs = lent.as_slice();
-        let sides = joined.as_slice();
-        let places = self.measured.len() as u64;
-        let top = u64::from(self.top);
-        assert_eq!(rt;
-            picture_cost(places, top, costs, sides, self.picture),
-            Ok(self.cost)
-        );
-        assert_eq!(rt;
-            sheet::check(heap, places, top, costs, sides, self.picture, self.flows),
-            Word::Cheapest(self.cost)
-        );
+        let costs = self.costs(heap)?;
+        let places = u32::try_from(self.measured.len()).unwrap_or(u32::MAX);
+        let sides = line(heap, places, self.price)?;
+        let lent = Lent {
+            places: self.measured.len() as u64,
+            top: u64::from(self.top),
+            costs: costs.as_slice(),
+            sides: sides.as_slice(),
+        };
+        assert_eq!(rt; lent.picture_cost(self.picture), Ok(self.cost));
+        assert_eq!(rt; check(heap, lent, self.picture, self.flows), Ok(self.cost));
         Ok(())
     }
 }
@@ -217,8 +202,14 @@ const SIDES: [(&[u32], u64); 5] = [
 #[test]
 fn costs_of_sides(rt: HostRuntime) -> Result<(), Fail> {
     for (sides, cost) in &SIDES {
-        assert_eq!(rt; picture_cost(2, 3, &[0; 8], sides, &[3, 0]), Ok(*cost));
-        assert_eq!(rt; picture_cost(2, 3, &[0; 8], sides, &[0, 3]), Ok(*cost));
+        let lent = Lent {
+            places: 2,
+            top: 3,
+            costs: &[0; 8],
+            sides,
+        };
+        assert_eq!(rt; lent.picture_cost(&[3, 0]), Ok(*cost));
+        assert_eq!(rt; lent.picture_cost(&[0, 3]), Ok(*cost));
     }
     Ok(())
 }

@@ -1,5 +1,9 @@
-ghost use Rattle.std.specs.Prelude.{◌≡◌};
+ghost use Rattle.std.specs.Prelude.{◌≡◌, Some};
 ghost use Rattle.word.specs.Numbered.{number_of, place_of};
+ghost use Rattle.word.specs.Text.{refusal_text};
+
+use std::error::Error;
+use std::fmt;
 
 // Why an input is turned away. The rules are tried in the order in which they stand here, and the first that applies
 // is the answer.
@@ -28,7 +32,7 @@ pub enum Refusal {
 }
 
 impl Refusal {
-    // The number of the rule in the list.
+    // The number of the rule in the list. It stays beside the enum: what is printed, and what callers read, has numbers.
     pub fn number(self) -> u64
         ensures { result ≡ number_of self }
     {
@@ -56,3 +60,15 @@ impl Refusal {
         }
     }
 }
+
+impl fmt::Display for Refusal {
+    ghost output = { λ e. Some (refusal_text e) };
+
+    fn fmt<W: fmt::Write>(&self, f: &mut fmt::Formatter<W>) -> fmt::Result {
+        let number = self.number();
+        let place = self.place();
+        write!(f, "refused {number} at {place}")
+    }
+}
+
+impl Error for Refusal {}

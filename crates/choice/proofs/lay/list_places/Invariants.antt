@@ -1,5 +1,10 @@
-use Rattle.std.proofs.Common.{◌≡◌, ℕ, ◌<◌, get_or}
+use Rattle.std.proofs.Common.{◌≡◌, ℕ, ◌<◌, ◌≤◌, length, get_or}
 use Rattle.choice.proofs.lay.list_places.Given as goal
 
-abbrev pub invariant-loop-i : goal.invariant-loop-i
-invariant-loop-i l = (k : ℕ) → k < l.i → get_or l.members k 0 ≡ k
+abbrev pub invariant-loop-place : goal.invariant-loop-place
+invariant-loop-place l =
+    record {
+      many : length l.places.items ≡ l.place;
+      room : l.field.places ≤ l.places.capacity;
+      each : (i : ℕ) → i < l.place → get_or l.places.items i 0 ≡ i;
+    }

@@ -6,5 +6,5 @@ pub place_costs-requires : goal.place_costs-requires
 place_costs-requires c =
     record {
       low = search rules;
-      within = row_within c.args.place c.args.self.now.places c.args.self.now.top (length c.args.self.now.costs.now) (search rules) c.args.self.now.each;
+      within = row_within c.args.place c.args.self.now.places c.args.self.now.top (length c.args.self.now.costs.now) (search rules) c.args.self.now.taken.laid.each;
     }
