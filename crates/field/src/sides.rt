@@ -3,7 +3,7 @@ ghost use Rattle.field.specs.Given.{sides_of};
 
 use super::side::Side;
 
-// The three numbers of each side.
+// The three numbers of each side: the library's `as_chunks`, with what it is of sides said once.
 #[tactic(auto, using(crate::proofs::Triples::triple_at))]
 pub(super) fn triples(sides: &[u32]) -> &[[u32; 3]]
     ensures count { length result.now ≡ sides_of sides.now }

@@ -2,6 +2,8 @@ ghost use Rattle.std.specs.Prelude.{◌≡◌, ◌+◌, ◌*◌, ◌<◌, ◌≤
 ghost use Rattle.field.specs.Limits.{most_top};
 ghost use Rattle.sheet.specs.Balanced.{most_flow, counted_at, balanced_test};
 
+// That a balance is within its limits each function asks anew: it is one number of many.
+
 // Counts at a place what flows out of it and what flows in; the other places stay as they are.
 pub(super) fn count_at(balance: &mut [i64], place: usize, out: u32, into: u32)
     requires within { place < length balance.old }

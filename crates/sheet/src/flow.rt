@@ -16,6 +16,8 @@ pub(super) struct Flow {
 }
 
 impl Flow {
+    // That both ends of a side lie within a slice each method asks anew: a side does not know the slice.
+
     // A side with its two flows, there and back.
     pub(super) fn of(side: Side, pair: &[u32; 2]) -> Self
         ensures side { result.side ≡ side }

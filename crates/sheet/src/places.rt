@@ -11,7 +11,7 @@ use super::counted::Balances;
 use word::Broken;
 
 impl<'a> Claim<'a> {
-    // What each value costs at a place.
+    // What each value costs at a place, lent as it lies, where `FieldView::costs_at` hands out a copy.
     fn row(&self, place: usize) -> &'a [u32]
         requires { place < self.now.field.places }
         ensures size { length result.now ≡ suc self.now.field.top }

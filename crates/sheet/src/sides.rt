@@ -13,7 +13,7 @@ use std::alloc::Global;
 use word::{Broken, Objection};
 
 impl<'a> Claim<'a> {
-    // The two flows of each side, there and back.
+    // The two flows of each side, there and back: the library's `as_chunks`, with what it is of flows said once.
     #[tactic(auto, using(crate::proofs::Pairs::pair_at))]
     fn pairs(&self) -> &'a [[u32; 2]]
         ensures count { length result.now ≡ (claim_field self.now).sides }
