@@ -1,12 +1,26 @@
+ghost use Rattle.std.specs.Prelude.{◌≤◌, MatchBool};
 ghost use Rattle.field.specs.Given.{field_in};
 ghost use Rattle.field.specs.Rules.{verdict};
 ghost use Rattle.field.specs.Costed.{both_rooms};
-ghost use Rattle.choice.specs.Solved.{Answered};
+ghost use Rattle.field.specs.Viewed.{field_of};
+ghost use Rattle.graph.specs.Few.{few_places, few_sides};
+ghost use Rattle.choice.specs.Solved.{Large, Answered};
 
+use super::lay::{lay_steps, list_places};
 use super::work::Work;
-use field::{Lent, Rooms};
+use field::{FieldView, Lent, Rooms};
+use graph::{FEW_PLACES, FEW_SIDES};
+use search::Search;
+use smallvec::SmallVec;
 use std::alloc::Global;
 use word::Unsolved;
+
+// Whether a field is small enough for the stack.
+fn is_small(field: &FieldView) -> bool
+    ensures { MatchBool result (((field_of field.now).places ≤ few_places) × ((field_of field.now).sides ≤ few_sides)) (Large (field_of field.now)) }
+{
+    field.places <= FEW_PLACES && field.sides.len() / 3 <= FEW_SIDES
+}
 
 // The lowest cheapest choice of yes or no for each place of a field with two values, and a sheet for it, written into
 // lent slices: refused by the first of rules 1 to 5 that applies, with nothing lent changed; or found. A field of more
@@ -30,7 +44,22 @@ pub fn choose<'f>(
         sides,
     }
     .examine(rooms)?;
-    let work = Work::of(heap, field)?;
-    work.solve(picture, flows);
+    let mut search = Search::none(heap);
+    search.make_room(field.places)?;
+    let mut members = SmallVec::new(heap);
+    list_places(&field, &mut members)?;
+    let mut steps = SmallVec::new(heap);
+    lay_steps(&field, &mut steps)?;
+    let mut work = Work {
+        field,
+        members: members.as_slice(),
+        steps: steps.as_mut_slice(),
+        search: &mut search,
+    };
+    if is_small(&field) {
+        work.solve_few(picture, flows);
+        return Ok(());
+    }
+    work.solve_many(heap, picture, flows)?;
     Ok(())
 }

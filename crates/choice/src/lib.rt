@@ -4,6 +4,7 @@
 
 mod entry;
 mod lay;
+mod room;
 mod work;
 
 pub use entry::choose;

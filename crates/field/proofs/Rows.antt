@@ -1,7 +1,7 @@
 -- One place's costs among all.
-use Rattle.std.proofs.Common.{◌≡◌, ℕ, suc, ◌+◌, ◌-◌, ◌*◌, ◌<◌, ◌≤◌, ◌⊎◌, List, ◌++◌, length, get_or, drop, replicate, refl, inl, inr, mul-le-mul_right, mul-le-mul, arith}
+use Rattle.std.proofs.Common.{◌≡◌, ℕ, suc, ◌+◌, ◌-◌, ◌*◌, ◌<◌, ◌≤◌, ◌⊎◌, List, ◌++◌, length, get_or, take, drop, replicate, refl, inl, inr, mul-le-mul_right, mul-le-mul, arith}
 use lib.ListN.{length-replicate}
-use Rattle.std.proofs.lemmas.List.{get_or-append_right, get_or-drop, get_or_past, get_or-replicate}
+use Rattle.std.proofs.lemmas.List.{get_or-append_right, get_or-drop, get_or_past, get_or-replicate, take-replicate}
 use Rattle.std.proofs.lemmas.Bool.{cases_lt}
 use Rattle.theory.specs.Pictures.{Picture}
 use Rattle.theory.specs.Fields.{Side, apart, side_cost}
@@ -33,6 +33,13 @@ same_by n i z (inr l) = let short : length (replicate n z) ≤ i = rw length-rep
 
 pub same_everywhere : {A : Type 0} (n i : ℕ) (z : A) → get_or (replicate n z) i z ≡ z
 same_everywhere n i z = same_by n i z (cases_lt i n)
+
+-- a part from the start of equal numbers, as it is lent on
+pub front_of_equals : {A : Type 0} (n k : ℕ) (z : A) → k ≤ n → take (k - 0) (drop 0 (replicate n z)) ≡ replicate k z
+front_of_equals n k z l = let whole : k - 0 ≡ k = omega arith in rw whole (take-replicate k n z l)
+
+pub front_long : {A : Type 0} (n k : ℕ) (z : A) → k ≤ n → length (take (k - 0) (drop 0 (replicate n z))) ≡ k
+front_long n k z l = rw (front_of_equals n k z l) (length-replicate k z)
 
 -- what lies past a part that was written over zeros
 pub past_written : (ys : List ℕ) (n k v : ℕ) → length ys ≤ v → get_or (ys ++ drop k (replicate n 0)) v 0 ≡ 0

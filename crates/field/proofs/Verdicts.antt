@@ -1,5 +1,5 @@
 -- What a verdict says, read back for every place, value and side, and the other way round.
-use Rattle.std.proofs.Common.{◌≡◌, ℕ, zero, suc, ◌+◌, ◌-◌, ◌*◌, ◌%◌, ◌<◌, ◌≤◌, true, eqb, ◌⊎◌, List, length, get_or, Ok, Err, refl, inl, inr, mul-le-mul, arith}
+use Rattle.std.proofs.Common.{◌≡◌, ℕ, zero, suc, ◌+◌, ◌-◌, ◌*◌, ◌%◌, ◌<◌, ◌≤◌, true, eqb, ◌⊎◌, List, length, get_or, IfOk, Ok, Err, refl, inl, inr, mul-le-mul, arith}
 use Rattle.std.proofs.lemmas.List.{get_or_past}
 use Rattle.std.proofs.lemmas.Bool.{cases_lt, leb-true, ltb-true, eqb-true, and_parts, le-leb, lt-ltb, and_from, or_right}
 use Rattle.std.proofs.lemmas.Bool.Decides.{nat_tests}
@@ -9,8 +9,9 @@ use Rattle.field.specs.declared.rooms.Rooms.{Rooms}
 use Rattle.theory.specs.Fields.{Sound}
 use Rattle.field.specs.Given.{cost_in, side_in, sides_of, field_in}
 use Rattle.field.specs.Firsts.{first}
-use Rattle.field.specs.Rules.{sizes, lengths, rooms_fit, cost_rule, side_rule, convex_test, convex_rule, convex_place, value_rule, values_fit, fits_looked_at, verdict}
+use Rattle.field.specs.Rules.{Verdict, sizes, lengths, rooms_fit, cost_rule, side_rule, convex_test, convex_rule, convex_place, value_rule, values_fit, fits_looked_at, verdict}
 use Rattle.field.specs.Taken.{Sized, Laid, Taken}
+use Rattle.field.specs.Costed.{both_rooms}
 use Rattle.field.proofs.Firsts.{both_ok, must_hold, must_pass, first_all, first_none}
 
 pub sizes_taken : (places top : ℕ) → sizes places top ≡ Ok tt → Sized places top
@@ -96,6 +97,20 @@ looked_taken places top costs sides rooms size long h =
       convex = convex_taken places top costs e.1;
     }
 
+-- the same of a whole verdict
+pub taken_by : (places top : ℕ) (costs sides : List ℕ) (rooms : Rooms) → verdict places top costs sides rooms ≡ Ok tt → Taken places top costs sides
+taken_by places top costs sides rooms h =
+    let s = both_ok (sizes places top) _ h in
+    let l = both_ok (lengths places top costs sides) _ s.1 in
+    let size = sizes_taken places top s.0 in
+    looked_taken places top costs sides rooms size (lengths_taken places top costs sides size l.0) l.1
+
+pub rooms_by : (places top : ℕ) (costs sides : List ℕ) (rooms : Rooms) → verdict places top costs sides rooms ≡ Ok tt → rooms_fit places sides rooms ≡ Ok tt
+rooms_by places top costs sides rooms h =
+    let s = both_ok (sizes places top) _ h in
+    let l = both_ok (lengths places top costs sides) _ s.1 in
+    (both_ok (rooms_fit places sides rooms) _ l.1).0
+
 pub sound_by : (places top : ℕ) (costs sides : List ℕ) → Taken places top costs sides → Sound (field_in places top costs sides)
 sound_by places top costs sides t =
     record { inside = λ k l. (t.starts k l, t.ends k l); convex = t.convex }
@@ -139,3 +154,15 @@ not_looked places top costs sides rooms e t fit stops =
     let passes = verdict_by places top costs sides rooms t fit in
     let looked : fits_looked_at places top costs sides rooms ≡ Ok tt = (both_ok (lengths places top costs sides) _ (both_ok (sizes places top) _ passes).1).1 in
     absurd (let z : ◌≡◌ {A = ℕ} 0 1 = cc in omega arith)
+
+pub made_if : (r : Verdict) (P : Type 0) → (r ≡ Ok tt → P) → IfOk r (λ _. P)
+made_if (Ok u) P h = h refl
+made_if (Err e) P h = tt
+
+-- a picture and flows that are lent have the lengths that they should
+pub rooms_taken :
+    (places top : ℕ) (costs sides picture flows : List ℕ) → verdict places top costs sides (both_rooms picture flows) ≡ Ok tt →
+    (length picture ≡ places) × (length flows ≡ 2 * sides_of sides)
+rooms_taken places top costs sides picture flows h =
+    let fit = rooms_by places top costs sides (both_rooms picture flows) h in
+    (grind (arith, nat_tests), grind (arith, nat_tests))

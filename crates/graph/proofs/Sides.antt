@@ -2,6 +2,7 @@
 use Rattle.std.proofs.Common.{◌≡◌, ℕ, suc, ◌+◌, ◌*◌, ◌/◌, ◌<◌, ◌≤◌, ◌≢◌, ◌⊎◌, List, [], ◌∷◌, length, get_or, set, sym, ap, subst, ◌∙◌, inl, inr, arith, length-set}
 use Rattle.std.proofs.lemmas.Bool.{cases_eq, cases_lt}
 use Rattle.std.proofs.lemmas.List.{get_or-set_same, get_or-set_other, get_or_past}
+use Rattle.field.specs.declared.view.FieldView.{FieldView}
 use Rattle.field.specs.Limits.{most_places, most_sides, most_price}
 use Rattle.field.specs.Given.{sides_of}
 use Rattle.field.specs.Taken.{Starts, Ends, Priced}
@@ -101,3 +102,14 @@ module _ (places : ℕ) (sides : List ℕ) (arcs : List Arc) (known : Sided plac
         cheap = arcs_cheap;
         rows = rows;
       }
+
+-- what a field's view says of its sides
+pub sided : (f : FieldView) → Sided f.places f.sides.now
+sided f =
+    record {
+      few = f.taken.sized.few;
+      scarce = f.taken.laid.scarce;
+      starts = f.taken.starts;
+      ends = f.taken.ends;
+      priced = f.taken.priced;
+    }

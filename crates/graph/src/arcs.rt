@@ -1,7 +1,7 @@
 use super::arc::Arc;
 use super::few::{FEW_ARCS, FEW_STARTS};
 use super::graph::Graph;
-use super::index::{lay_arcs, lay_rows};
+use super::lay::lay_graph;
 use field::FieldView;
 use smallvec::SmallVec;
 use std::alloc::{AllocError, Global};
@@ -41,10 +41,14 @@ impl Arcs {
     {
         let sides = field.sides.len() / 3;
         let mut arcs = SmallVec::from_elem(heap, Arc::default(), 2 * sides)?;
-        lay_arcs(field.sides, arcs.as_mut_slice());
         let mut starts = SmallVec::from_elem(heap, 0u32, field.places + 1)?;
-        let mut order = SmallVec::from_elem(heap, 0u32, arcs.len())?;
-        lay_rows(arcs.as_slice(), starts.as_mut_slice(), order.as_mut_slice());
+        let mut order = SmallVec::from_elem(heap, 0u32, 2 * sides)?;
+        lay_graph(
+            field,
+            arcs.as_mut_slice(),
+            starts.as_mut_slice(),
+            order.as_mut_slice(),
+        );
         Ok(Arcs {
             places: field.places,
             arcs,

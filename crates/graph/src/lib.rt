@@ -8,13 +8,15 @@ mod few;
 mod flow;
 mod graph;
 mod index;
+mod lay;
 mod open;
 mod residual;
 mod rows;
 
 pub use arc::Arc;
 pub use arcs::Arcs;
-pub use few::FEW_PLACES;
+pub use few::{FEW_ARCS, FEW_PLACES, FEW_SIDES, FEW_STARTS};
 pub use graph::Graph;
 pub use index::{lay_arcs, lay_rows};
+pub use lay::lay_graph;
 pub use residual::Residual;

@@ -1,10 +1,22 @@
 ghost use Rattle.std.specs.Prelude.{◌≡◌, ℕ, ◌<◌, length, pos, ◌≤ℤ◌, slice_index};
 ghost use Rattle.search.specs.Residuals.{step, Open};
-ghost use Rattle.search.specs.Trees.{count, Quiet, Explored};
+ghost use Rattle.search.specs.Trees.{count, Seen, Ordered, Quiet, Explored};
 ghost use Rattle.level.specs.Moves.{Closing};
 ghost use Rattle.level.specs.Levels.{scene_of, root_of, Searched, Same, Worked};
 
 use super::level::Level;
+use search::Search;
+
+// Gives all places that a search reached the mark of yes.
+fn mark(search: &Search, marks: &mut [u32], yes: u32)
+    requires { Ordered (length marks.old) search.now }
+    ensures reached { (i : ℕ) → Seen search.now i → slice_index marks.new i ≡ yes }
+    ensures others { (i : ℕ) → (Seen search.now i → ⊥) → slice_index marks.new i ≡ slice_index marks.old i }
+{
+    for reached in search.reached() {
+        marks[reached.place as usize] = yes;
+    }
+}
 
 impl Level<'_, '_> {
     // Closes all that a search reached which found no sink: it is yes.
@@ -13,13 +25,13 @@ impl Level<'_, '_> {
         requires quiet { Quiet (scene_of self.old) self.old.search.now }
         requires explored { Explored (scene_of self.old) self.old.search.now (count self.old.search.now) }
         ensures worked { Worked self.old self.new }
+        ensures reached { (i : ℕ) → Seen self.old.search.now i → slice_index self.new.marks.now i ≡ self.old.task.yes }
+        ensures others { (i : ℕ) → (Seen self.old.search.now i → ⊥) → slice_index self.new.marks.now i ≡ slice_index self.old.marks.now i }
+        ensures flows { self.new.flows.now ≡ self.old.flows.now }
+        ensures steps { self.new.steps.now ≡ self.old.steps.now }
         ensures shut { Open (scene_of self.new) (root_of self.old) → ⊥ }
     {
-        let yes = self.task.yes;
-        let marks = &mut *self.marks;
-        for reached in self.search.reached() {
-            marks[reached.place as usize] = yes;
-        }
+        mark(self.search, self.marks, self.task.yes);
     }
 
     // Sends what an open source has to sinks, one after the other, until it has nothing left or no sink can be reached.

@@ -1,14 +1,14 @@
 -- Trees that searches grow: one place more keeps a tree a tree, and what is reached lies in every closed set that holds the root.
-use Rattle.std.proofs.Common.{◌≡◌, ℕ, zero, suc, ◌+◌, ◌<◌, ◌≤◌, Bool, true, ◌≢◌, ◌⊎◌, List, [], length, get_or, pos, ◌≤ℤ◌, sym, ap, ◌∙◌, subst, inl, inr, arith, length-set, get_or-set_other, get_or-set_same}
+use Rattle.std.proofs.Common.{◌≡◌, ℕ, zero, suc, ◌+◌, ◌<◌, ◌≤◌, Bool, true, ◌≢◌, ◌⊎◌, List, [], ◌∷◌, ◌++◌, length, get_or, pos, ◌≤ℤ◌, sym, refl, ap, ◌∙◌, subst, inl, inr, arith, length-set, get_or-set_other, get_or-set_same}
 use Rattle.std.proofs.Math.ListN.{get_or-append}
 use Rattle.std.proofs.Math.Seq.{get_or-append_seam}
 use Rattle.std.proofs.lemmas.Bool.{cases_eq, cases_lt}
-use Rattle.std.proofs.lemmas.List.{length-append}
+use Rattle.std.proofs.lemmas.List.{length-append, length_push, get_or_push}
 use Rattle.search.specs.declared.reached.Reached.{Reached}
 use Rattle.search.specs.declared.search.Search.{Search}
 use Rattle.search.specs.Standing.{none_reached}
 use Rattle.search.specs.Residuals.{Scene, net, step, Open, room_at}
-use Rattle.search.specs.Trees.{count, at, slot, parent, reach, Sized, Seen, Ordered, Added, Led, Tree, Quiet, Followed, FollowedFrom, FollowedBelow, Explored, Grown, Went}
+use Rattle.search.specs.Trees.{count, at, slot, parent, reach, Sized, Seen, Ordered, Added, Led, Tree, Quiet, Followed, FollowedFrom, Left, Explored, Grown, Went}
 
 -- what a search keeps, said of as many places as have slots
 pub ordered_by : (n : ℕ) (s : Search) → Sized n s → Ordered n s
@@ -218,16 +218,48 @@ module _ (v : Scene) (s : Search) (tree : Tree v s) (set : ℕ → Bool) (has : 
 pub followed_more : (v : Scene) (s t : Search) (e : ℕ) → Grown s t → Followed v s e → Followed v t e
 followed_more v s t e g h room opened = seen_more s t ((net v).arc e).to g (h room opened)
 
--- one arc more of a row was followed
-row_by :
-    (v : Scene) (s t : Search) (row : List ℕ) (n k : ℕ) → FollowedBelow v s row n → Grown s t → Followed v t (get_or row n 0) → k < suc n → (k < n) ⊎ (n ≤ k) →
-    Followed v t (get_or row k 0)
-row_by v s t row n k before g here m (inl b) = followed_more v s t (get_or row k 0) g (before k b)
-row_by v s t row n k before g here m (inr b) = let last : k ≡ n = omega arith in rw last here
+-- of the arcs that were left, the last one was followed
+left_by :
+    (v : Scene) (s t : Search) (left rest : List ℕ) (arc e : ℕ) → Grown s t → Followed v t arc → left ≡ rest ++ arc ∷ [] →
+    Followed v s e ⊎ ((k : ℕ) × (k < length left) × (get_or left k 0 ≡ e)) → Followed v t e ⊎ ((k : ℕ) × (k < length rest) × (get_or rest k 0 ≡ e))
+left_by v s t left rest arc e g here is (inl f) = inl (followed_more v s t e g f)
+left_by v s t left rest arc e g here is (inr (k, l, at)) =
+    let one : length left ≡ suc (length rest) = rw is (omega (arith, length_push rest arc)) in
+    elim (cases_lt k (length rest)) [
+      | inl b ↦ inr (k, b, sym (get_or-append rest (arc ∷ []) 0 k b) ∙ ap (λ xs. get_or xs k 0) (sym is) ∙ at)
+      | inr b ↦
+          let last : k ≡ length rest = omega arith in
+          let same : arc ≡ e =
+          sym (get_or_push rest arc 0 (length rest) refl) ∙ ap (λ xs. get_or xs (length rest) 0) (sym is) ∙ ap (λ j. get_or left j 0) (sym last) ∙ at in
+          inl (subst (Followed v t) same here)
+    ]
 
-pub row_more :
-    (v : Scene) (s t : Search) (row : List ℕ) (n : ℕ) → FollowedBelow v s row n → Grown s t → Followed v t (get_or row n 0) → FollowedBelow v t row (n + 1)
-row_more v s t row n before g here k m = row_by v s t row n k before g here (omega arith) (cases_lt k n)
+pub left_less :
+    (v : Scene) (s t : Search) (i : ℕ) (left rest : List ℕ) (arc : ℕ) → Left v s i left → left ≡ rest ++ arc ∷ [] → Grown s t → Followed v t arc → Left v t i rest
+left_less v s t i left rest arc h is g here =
+    let one : length left ≡ suc (length rest) = rw is (omega (arith, length_push rest arc)) in
+    record {
+      leaves = λ k l.
+          let same : get_or left k 0 ≡ get_or rest k 0 = ap (λ xs. get_or xs k 0) is ∙ get_or-append rest (arc ∷ []) 0 k l in
+          rw same at (h.leaves k (omega arith));
+      others = λ e l f. left_by v s t left rest arc e g here is (h.others e l f);
+    }
+
+-- the last of the arcs that are left is one of the place's
+pub left_last :
+    (v : Scene) (s : Search) (i : ℕ) (left rest : List ℕ) (arc : ℕ) → Left v s i left → left ≡ rest ++ arc ∷ [] → (arc < (net v).arcs) × (((net v).arc arc).from ≡ i)
+left_last v s i left rest arc h is =
+    let one : length left ≡ suc (length rest) = rw is (omega (arith, length_push rest arc)) in
+    let same : get_or left (length rest) 0 ≡ arc = ap (λ xs. get_or xs (length rest) 0) is ∙ get_or_push rest arc 0 (length rest) refl in
+    rw same at (h.leaves (length rest) (omega arith))
+
+-- none is left
+none_by : (v : Scene) (s : Search) (left : List ℕ) (e : ℕ) → length left ≡ 0 → Followed v s e ⊎ ((k : ℕ) × (k < length left) × (get_or left k 0 ≡ e)) → Followed v s e
+none_by v s left e z (inl f) = f
+none_by v s left e z (inr h) = absurd (omega (arith, h.1))
+
+pub left_none : (v : Scene) (s : Search) (i : ℕ) (left : List ℕ) → Left v s i left → length left ≡ 0 → FollowedFrom v s i
+left_none v s i left h z e l f = none_by v s left e z (h.others e l f)
 
 -- one place more is explored
 explored_by :

@@ -1,5 +1,6 @@
 -- What a search has reached: a tree of arcs with room, from its root. Assumes nothing: these are definitions.
-use Rattle.std.specs.Prelude.{◌≡◌, ℕ, ◌<◌, ◌≤◌, List, [], ◌∷◌, ◌++◌, length, pos, ◌≤ℤ◌, ◌<ℤ◌, Some, None, Option, slice_index, slice_index_or, slice_set}
+use Rattle.std.specs.Prelude.{◌≡◌, ℕ, ◌<◌, ◌≤◌, ◌⊎◌, List, [], ◌∷◌, ◌++◌, length, pos, ◌≤ℤ◌, ◌<ℤ◌, Some, None, Option, slice_index, slice_index_or, slice_set}
+use Rattle.graph.specs.Few.{few_places}
 use Rattle.search.specs.declared.search.Search.{Search}
 use Rattle.search.specs.Standing.{none_reached, place_in, Standing}
 use Rattle.search.specs.Residuals.{Scene, net, step, Open, room_at}
@@ -24,6 +25,17 @@ reach s i = (slice_index_or s.reached.items (slot s i) none_reached).amount
 -- there are as many slots as n places
 abbrev pub Sized : (n : ℕ) (s : Search) → Type 0
 Sized n s = length s.slots.items ≡ n
+
+-- what was reached and the slots lie in the value itself, and take no memory from the heap
+pub record Inline (s : Search) : Type 0 where
+  pub reached : s.reached.capacity ≡ few_places
+  pub slots : s.slots.capacity ≡ few_places
+
+-- there are no slots yet, nothing was reached, and no memory was asked for
+pub record Fresh (s : Search) : Type 0 where
+  pub none : s.reached.items ≡ []
+  pub slots : s.slots.items ≡ []
+  pub inline : Inline s
 
 -- a place was reached
 abbrev pub Seen : Search → ℕ → Type 0
@@ -68,9 +80,11 @@ Followed v s e = 0 < room_at v e → Open v ((net v).arc e).to → Seen s ((net 
 abbrev pub FollowedFrom : Scene → Search → (i : ℕ) → Type 0
 FollowedFrom v s i = (e : ℕ) → e < (net v).arcs → ((net v).arc e).from ≡ i → Followed v s e
 
--- the arcs of a row were followed, up to the n-th
-abbrev pub FollowedBelow : Scene → Search → (row : List ℕ) (n : ℕ) → Type 0
-FollowedBelow v s row n = (k : ℕ) → k < n → Followed v s (slice_index row k)
+-- some arcs of place i are left to be looked along; all others of it were followed
+pub record Left (v : Scene) (s : Search) (i : ℕ) (left : List ℕ) : Type 0 where
+  pub leaves : (k : ℕ) → k < length left → (slice_index left k < (net v).arcs) × (((net v).arc (slice_index left k)).from ≡ i)
+  pub others :
+      (e : ℕ) → e < (net v).arcs → ((net v).arc e).from ≡ i → Followed v s e ⊎ ((k : ℕ) × (k < length left) × (slice_index left k ≡ e))
 
 -- so do all arcs of the first n places that were reached
 abbrev pub Explored : Scene → Search → ℕ → Type 0

@@ -47,7 +47,7 @@ impl Search {
         None
     }
 
-    // Looks along every arc of a place that was reached, up to the first sink.
+    // Looks along every arc of a place that was reached, from the last to the first, up to the first sink.
     fn scan(&mut self, residual: &Residual, place: usize) -> Option<usize>
         requires tree { Tree (scene residual.now) self.old }
         requires quiet { Quiet (scene residual.now) self.old }
@@ -56,7 +56,7 @@ impl Search {
         ensures went { Went (scene residual.now) self.old self.new }
         ensures found { Found (scene residual.now) self.new (FollowedFrom (scene residual.now) self.new place) result }
     {
-        for arc in residual.graph.leaving(place) {
+        for arc in residual.graph.leaving(place).iter().rev() {
             if let Some(sink) = self.look(residual, *arc as usize) {
                 return Some(sink);
             }

@@ -18,10 +18,33 @@ pub struct Search {
 }
 
 impl Search {
-    ghost use Rattle.std.specs.Prelude.{Decides, IfOk, IsOk};
+    ghost use Rattle.std.specs.Prelude.{Decides, IfOk, IsOk, OnOk};
     ghost use Rattle.graph.specs.Few.{few_places};
     ghost use Rattle.graph.specs.Arcs.{most_arcs};
-    ghost use Rattle.search.specs.Trees.{count, at, parent, reach, Sized, Seen, Added};
+    ghost use Rattle.search.specs.Trees.{count, at, parent, reach, Sized, Fresh, Inline, Seen, Added};
+
+    // A search of no place yet, in memory of the value itself alone. It is large: made where it stays, it is not moved.
+    pub fn none(heap: Global) -> Search
+        ensures { Fresh result }
+    {
+        Search {
+            reached: SmallVec::new(heap),
+            slots: SmallVec::new(heap),
+        }
+    }
+
+    // A slot for each of so many places, and room to reach every one.
+    pub fn make_room(&mut self, places: usize) -> Result<(), AllocError>
+        requires { Fresh self.old }
+        ensures sized { OnOk result (Sized places self.new) }
+        ensures none { count self.new ≡ 0 }
+        ensures small { places ≤ few_places → IsOk result }
+        ensures inline { places ≤ few_places → Inline self.new }
+    {
+        self.reached.reserve_exact(places)?;
+        self.slots.reserve_exact(places)?;
+        self.slots.resize(places, 0)
+    }
 
     // A search over so many places, which has reached none of them yet.
     pub fn new(heap: Global, places: usize) -> Result<Search, AllocError>
@@ -29,9 +52,9 @@ impl Search {
         ensures none { IfOk result (λ s. count s ≡ 0) }
         ensures small { places ≤ few_places → IsOk result }
     {
-        let reached = SmallVec::with_capacity(heap, places)?;
-        let slots = SmallVec::from_elem(heap, 0, places)?;
-        Ok(Search { reached, slots })
+        let mut search = Search::none(heap);
+        search.make_room(places)?;
+        Ok(search)
     }
 
     // The places that were reached, in their order, from the root on.

@@ -41,10 +41,6 @@ few_places = 4096
 abbrev pub Wanting : Field → Word → Type 0
 Wanting f r = (r ≡ Err NoMemory) × (few_places < f.places)
 
--- the rules of all sides, which come to t, do not pass: the first that is broken, or there was no memory to try them
-abbrev pub Halted : Field → Tried Broken → Objection → Type 0
-Halted f t e = ((b : Broken) × (e ≡ OfBroken b) × (t ≡ Err b)) ⊎ ((e ≡ NoMemory) × (few_places < f.places))
-
 -- the answer is that word, or there was no memory to find it
 abbrev pub Judged : Field → Word → Tried Broken → ℕ → Type 0
 Judged f r t cost = (r ≡ word_of t cost) ⊎ Wanting f r

@@ -22,7 +22,7 @@ impl<'a> Claim<'a> {
     }
 }
 
-impl Balances<'_> {
+impl Balances<'_, '_> {
     // The rule of a place, with its own value, against another. By the place's number, which a broken rule names too.
     fn value_holds(&self, place: usize, here: Priced, other: Priced) -> bool
         requires place { place < self.now.claim.field.places }

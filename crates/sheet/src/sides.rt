@@ -1,16 +1,15 @@
-ghost use Rattle.std.specs.Prelude.{◌≡◌, ℕ, ◌<◌, ◌∷◌, [], length, pos, Ok, OnOk, IfOk, IfErr, slice_index_or};
+ghost use Rattle.std.specs.Prelude.{◌≡◌, ℕ, ◌<◌, ◌∷◌, [], length, pos, OnOk, IfOk, slice_index_or};
 ghost use Rattle.theory.specs.Sheets.{there, back};
-ghost use Rattle.field.specs.Firsts.{first};
+ghost use Rattle.field.specs.Firsts.{first, said};
 ghost use Rattle.field.specs.Viewed.{side_of};
 ghost use Rattle.sheet.specs.Claimed.{claim_field, claim_picture, claim_flows, sides_tried};
 ghost use Rattle.sheet.specs.Balanced.{Counted};
-ghost use Rattle.sheet.specs.Words.{side_rule, Halted};
+ghost use Rattle.sheet.specs.Words.{side_rule};
 
 use super::claim::Claim;
-use super::counted::{Balances, zeros};
+use super::counted::Balances;
 use super::flow::Flow;
-use std::alloc::Global;
-use word::{Broken, Objection};
+use word::Broken;
 
 impl<'a> Claim<'a> {
     // The two flows of each side, there and back: the library's `as_chunks`, with what it is of flows said once.
@@ -22,6 +21,8 @@ impl<'a> Claim<'a> {
         let (pairs, _) = self.flows.as_chunks::<2>();
         pairs
     }
+
+    // That a zero is lent for each place `sides_hold`, `count` and `judge` ask anew: a lent slice does not know its claim.
 
     // The rule of each side, in one pass that counts what flows out of each place less what flows in. The label leaves it
     // at the first side whose rule is broken, the form that this project has for such passes.
@@ -43,13 +44,14 @@ impl<'a> Claim<'a> {
         verdict
     }
 
-    // The balances of a claim, where the rule of each side holds.
-    pub(super) fn count(self, heap: Global) -> Result<Balances<'a>, Objection>
-        ensures counted { IfOk result (λ b. (b.claim ≡ self.entry) × (sides_tried self.entry ≡ Ok tt)) }
-        ensures halted { IfErr result (Halted (claim_field self.entry) (sides_tried self.entry)) }
+    // The balances of a claim, where the rule of each side holds, in zeros that are lent for them.
+    pub(super) fn count<'n>(self, numbers: &'n mut [i64]) -> Result<Balances<'a, 'n>, Broken>
+        requires room { length numbers.old ≡ self.field.places }
+        requires blank { (i : ℕ) → slice_index_or numbers.old i (pos 0) ≡ pos 0 }
+        ensures claim { IfOk result (λ b. b.claim ≡ self.entry) }
+        ensures answer { said result ≡ sides_tried self.entry }
     {
-        let mut numbers = zeros(heap, self.field.places)?;
-        self.sides_hold(numbers.as_mut_slice())?;
+        self.sides_hold(numbers)?;
         Ok(Balances {
             claim: self,
             numbers,

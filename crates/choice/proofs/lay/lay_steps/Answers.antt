@@ -27,6 +27,7 @@ loop-row-preserved c =
       rest = rw more others;
       many = omega (arith, more, longer, inv.many);
       room = search rules;
+      inline = search rules;
       each =
           rw more
           (steps_more costs c.loop-row.steps.items c.push_reserved.new.self.items _ k c.push_reserved.ensures.items inv.many
