@@ -14,7 +14,9 @@ use word::Objection;
 const FEW_PLACES: usize = 4_096;
 
 impl Claim<'_> {
-    // The word of a claim whose picture has this cost, with a zero lent for each place.
+    // The word of a claim whose picture has this cost, with a zero lent for each place. Inlined: where all of `check` goes
+    // into one caller with a known field of a few places, the compiler then lays down zeros for these alone.
+    #[inline(always)]
     fn judge(self, numbers: &mut [i64], cost: u64) -> Result<u64, Objection>
         requires room { length numbers.old ≡ self.field.places }
         requires blank { (i : ℕ) → slice_index_or numbers.old i (pos 0) ≡ pos 0 }
